@@ -1,0 +1,4 @@
+pub mod Colors
+pub mod Attrs
+pub mod Styles
+pub mod Bytes
