@@ -84,7 +84,12 @@ fn refusal_agrees(answer: &str, refusal: Refusal) -> bool {
 }
 
 // Whether the text, in hex, has these pieces and these characters.
-pub(crate) fn agrees(heap: Global, text: &str, pieces: &str, stripped: &str) -> Result<bool, AnyError> {
+pub(crate) fn agrees(
+    heap: Global,
+    text: &str,
+    pieces: &str,
+    stripped: &str,
+) -> Result<bool, AnyError> {
     let Some(text) = decode(heap, text)? else {
         return Ok(false);
     };
