@@ -7,6 +7,9 @@ use std::path::Path;
 use std::time::Instant;
 
 use crate::ansi::{AnsiAware, AnsiAwareChar, AnsiStrippable};
+use crate::terminal::TerminalSize;
+use crate::ui::frame_renderer::probe::Probe;
+use crate::ui::{StyleSheet, Styled};
 use crate::Outcome;
 
 /// One more than the last code point, so that an escape sequence counts as no character does.
@@ -28,6 +31,30 @@ pub fn run(out: &mut impl Write, file: &Path, rounds: u32) -> Outcome {
         writeln!(out, "{name} {checksum} {nanoseconds}")?;
     }
     Ok(())
+}
+
+/// Prints the line of one more measurement: a frame of 80 columns is opened, the text written, and the frame finished.
+pub fn write(out: &mut impl Write, file: &Path, rounds: u32) -> Outcome {
+    let text = fs::read_to_string(file)?;
+    let (_, nanoseconds) = fastest(rounds, || written(black_box(&text)).rows().count() as u64);
+    let checksum = written(&text).rows().fold(0, |sum, row| {
+        add(
+            sum,
+            row.runs.iter().map(|run| run.content.len() as u64).sum(),
+        )
+    });
+    writeln!(out, "write {checksum} {nanoseconds}")?;
+    Ok(())
+}
+
+fn written(text: &str) -> Probe {
+    let mut frame = Probe::new(TerminalSize::default());
+    frame.write(&Styled {
+        content: text,
+        style: StyleSheet::default(),
+    });
+    frame.finish();
+    frame
 }
 
 /// The checksum, and the time of the fastest round.

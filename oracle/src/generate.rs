@@ -44,7 +44,8 @@ const BEGINNINGS: [&str; 9] = [
 /// Any two states answer differently to at least one of these.
 const ENDINGS: [&str; 2] = ["]a\x07b", "0a\x07b"];
 
-const DAMAGE: [&[u8]; 14] = [
+/// Bytes that are ill-formed wherever they stand between characters.
+pub const DAMAGE: [&[u8]; 14] = [
     b"\x80",
     b"\xbf",
     b"\xff",

@@ -1,11 +1,21 @@
 //! Answers, texts and timings by the published Rust, to compare our programs with.
 
+mod accepted;
 mod bench;
+mod examples;
 mod generate;
 mod hex;
+mod model;
+mod model_pieces;
+mod partings;
 mod pieces;
+mod published;
 mod random;
 mod sample;
+mod sample_rows;
+mod script;
+mod scripts;
+mod style;
 mod texts;
 
 include!(concat!(env!("OUT_DIR"), "/inquire/modules.rs"));
@@ -16,6 +26,12 @@ use std::path::Path;
 use std::process::ExitCode;
 use std::thread;
 
+use accepted::Accepted;
+use model::Model;
+use partings::Partings;
+use published::{Hashes, Published};
+use script::Player;
+
 const USAGE: &str = "\
 usage: oracle list                        texts in hex on standard input, their pieces
        oracle stripped                    the same, their characters outside escape sequences
@@ -23,9 +39,16 @@ usage: oracle list                        texts in hex on standard input, their 
        oracle generate states             every character up to U+00FF in each state
        oracle generate bytes              every short text over the bytes at UTF-8's bounds
        oracle generate random SEED COUNT  random texts
+       oracle generate rows SEED COUNT    random scripts of calls on frames
        oracle sample                      chosen texts with both answers
        oracle texts DIR                   write the three texts for timing
-       oracle bench FILE ROUNDS           time the reading of FILE";
+       oracle bench FILE ROUNDS           time the reading of FILE
+       oracle bench-write FILE ROUNDS     time the writing of FILE to a frame
+       oracle rows                        scripts on standard input, the published frame's answers
+       oracle rows accepted               the same, asked only what the rules accept
+       oracle model [PARTINGS]            the same by the rules, with partings: all, none or names
+       oracle partings                    the partings, each with a script and both answers
+       oracle sample-rows DIR             write chosen scripts and the rules' answers";
 
 /// The published reader may call itself once for each character.
 const STACK: usize = 1 << 30;
@@ -62,7 +85,21 @@ fn run(arguments: &[String]) -> Outcome {
         }
         ["sample"] => sample::print(&mut out)?,
         ["texts", folder] => texts::write(Path::new(folder))?,
+        ["bench-write", file, rounds] => {
+            bench::write(&mut out, Path::new(file), rounds.parse()?)?;
+        }
         ["bench", file, rounds] => bench::run(&mut out, Path::new(file), rounds.parse()?)?,
+        ["generate", "rows", seed, count] => {
+            for script in scripts::random(seed.parse()?, count.parse()?) {
+                out.write_all(script.as_bytes())?;
+            }
+        }
+        ["rows"] => play(&mut out, Published::new(Hashes::Hidden))?,
+        ["rows", "accepted"] => play(&mut out, Accepted::new())?,
+        ["model"] => play(&mut out, Model::new(Partings::default()))?,
+        ["model", partings] => play(&mut out, Model::new(Partings::parse(partings)?))?,
+        ["partings"] => examples::print(&mut out)?,
+        ["sample-rows", folder] => sample_rows::write(Path::new(folder))?,
         _ => return Err(USAGE.into()),
     }
     out.flush()?;
@@ -75,6 +112,11 @@ fn answer_lines(out: &mut impl Write, answer: fn(&[u8]) -> String) -> Outcome {
         writeln!(out, "{}", answer(&hex::decode(&line?)?))?;
     }
     Ok(())
+}
+
+/// Plays the scripts of standard input.
+fn play(out: &mut impl Write, mut player: impl Player) -> Outcome {
+    script::play(&mut player, io::stdin().lock(), out)
 }
 
 fn print_texts(out: &mut impl Write, texts: impl Iterator<Item = Vec<u8>>) -> Outcome {

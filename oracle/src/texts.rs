@@ -1,4 +1,4 @@
-//! The three texts for timing, each of exactly 1 MiB and always the same.
+//! The texts for timing, always the same: three of exactly 1 MiB to be read, and two of 16,000 bytes to be written.
 
 use std::fs;
 use std::io;
@@ -8,24 +8,29 @@ use crate::random::Random;
 
 const SIZE: usize = 1 << 20;
 
+/// What a frame of ours takes at most, less a little.
+const WRITTEN: usize = 16_000;
+
 /// A line is broken once it has this many characters and more.
 const LINE: usize = 72;
 
 pub fn write(folder: &Path) -> io::Result<()> {
     fs::create_dir_all(folder)?;
-    fs::write(folder.join("plain.txt"), text(2, plain_word))?;
-    fs::write(folder.join("mixed.txt"), text(3, mixed_word))?;
-    fs::write(folder.join("escapes.txt"), text(4, escaped_word))
+    fs::write(folder.join("plain.txt"), text(SIZE, 2, plain_word))?;
+    fs::write(folder.join("mixed.txt"), text(SIZE, 3, mixed_word))?;
+    fs::write(folder.join("escapes.txt"), text(SIZE, 4, escaped_word))?;
+    fs::write(folder.join("letters.txt"), "a".repeat(WRITTEN))?;
+    fs::write(folder.join("scripts.txt"), text(WRITTEN, 5, mixed_word))
 }
 
 /// Words with spaces and line feeds between them, filled up with full stops.
-fn text(seed: u64, word: fn(&mut Random) -> String) -> String {
+fn text(size: usize, seed: u64, word: fn(&mut Random) -> String) -> String {
     let mut random = Random::new(seed);
-    let mut text = String::with_capacity(SIZE);
+    let mut text = String::with_capacity(size);
     let mut column = 0;
     loop {
         let next = word(&mut random);
-        if text.len() + next.len() + 1 > SIZE {
+        if text.len() + next.len() + 1 > size {
             break;
         }
         text.push_str(&next);
@@ -35,7 +40,7 @@ fn text(seed: u64, word: fn(&mut Random) -> String) -> String {
             column = 0;
         }
     }
-    text.extend(std::iter::repeat_n('.', SIZE - text.len()));
+    text.extend(std::iter::repeat_n('.', size - text.len()));
     text
 }
 

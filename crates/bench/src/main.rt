@@ -1,4 +1,6 @@
-// Times the reading of a text into pieces.
+// Times the reading of a text into pieces, and its writing to a frame.
+mod writes;
+
 use ansi::AnsiAware;
 use ansi::AnsiAwareChars;
 use ansi::AnsiAwareCharsIterator;
@@ -85,17 +87,34 @@ fn measure(
     Ok(())
 }
 
-fn run(rt: &LibcRuntime) -> Result<(), AnyError> {
-    let mut args = env::args(rt)?;
-    let _program = args.next();
-    let (Some(file), Some(rounds)) = (args.next(), args.next()) else {
-        return Err("usage: bench FILE ROUNDS".into());
-    };
-    let rounds = rounds.as_str().parse::<u32>()?;
-    let text = fs::read_to_string(rt, file.as_str())?;
+const HELP: &str =
+    "usage: bench FILE ROUNDS: times the reading of a text; bench write FILE ROUNDS: its writing to a frame";
+
+fn read(rt: &LibcRuntime, file: &str, rounds: &str) -> Result<(), AnyError> {
+    let rounds = rounds.parse::<u32>()?;
+    let text = fs::read_to_string(rt, file)?;
     measure(rt, "pieces", Work::Pieces, text.as_str(), rounds)?;
     measure(rt, "stripped", Work::Stripped, text.as_str(), rounds)?;
     measure(rt, "checked", Work::Checked, text.as_str(), rounds)
+}
+
+fn write(rt: &LibcRuntime, file: &str, rounds: &str) -> Result<(), AnyError> {
+    let rounds = rounds.parse::<u32>()?;
+    let text = fs::read_to_string(rt, file)?;
+    writes::measure(rt, text.as_str(), rounds)
+}
+
+fn run(rt: &LibcRuntime) -> Result<(), AnyError> {
+    let mut args = env::args(rt)?;
+    let _program = args.next();
+    match (args.next(), args.next(), args.next()) {
+        (Some(file), Some(rounds), None) => read(rt, file.as_str(), rounds.as_str()),
+        (Some(_write), Some(file), Some(rounds)) => write(rt, file.as_str(), rounds.as_str()),
+        _ => {
+            rt.println(HELP)?;
+            Ok(())
+        }
+    }
 }
 
 fn main(rt: LibcRuntime) -> Result<(), AnyError> {

@@ -1,4 +1,3 @@
 pub mod Sequences
 pub mod Pens
 pub mod Checks
-pub mod Examples

@@ -1,0 +1,10 @@
+pub mod Counts
+pub mod Tallies
+pub mod Grow
+pub mod Monotone
+pub mod Rooms
+pub mod Seams
+pub mod Opens
+pub mod Breaking
+pub mod RowLaws
+pub mod Laws

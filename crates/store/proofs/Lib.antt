@@ -1,0 +1,6 @@
+pub mod Alike
+pub mod Cutting
+pub mod Found
+pub mod Grow
+pub mod Joining
+pub mod Sizes

@@ -1,0 +1,3 @@
+//! Stands in for the published crate's errors.
+
+pub type InquireResult<T> = Result<T, std::io::Error>;
