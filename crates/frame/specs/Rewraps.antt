@@ -44,20 +44,20 @@ abbrev pub Resizes : {C R : Type 0} → Rule → TerminalSize → FrameState C R
 Resizes k z s t u v = (SameSize (s .«terminal_size») z × (t ≡ s) × (v ≡ u)) ⊎ ((SameSize (s .«terminal_size») z → ⊥) × Rewraps k z s t u v)
 
 -- the size is another one, and the frame wrapped anew does not fit
-abbrev pub TooSmall : {C R : Type 0} → Rule → TerminalSize → FrameState C R → FrameError → Type 0
-TooSmall k z s e = (SameSize (s .«terminal_size») z → ⊥) × (fits k (rewrapped k (sheetOf s)) ≡ false) × (e ≡ TooLarge)
+abbrev pub DeniesSize : {C R : Type 0} → Rule → TerminalSize → FrameState C R → FrameError → Type 0
+DeniesSize k z s e = (SameSize (s .«terminal_size») z → ⊥) × (fits k (rewrapped k (sheetOf s)) ≡ false) × (e ≡ TooLarge)
 
--- the runs of a row, none past the last
+-- the runs of a row, and none past the last row
 abbrev pub runsIn : Line → Frame → List Run
 runsIn (Finished i) f = getD (f .rows) i noRow .runs
 runsIn Open f = f .runs
 
--- what was measured is the frame f
+-- m has the counts of f, and says whether its style is plain
 pub record Tells (m : Measured) (f : Frame) : Type 0 where
   pub counts : countsOf (m .counts) ≡ tallyOf f
   pub bare : m .bare ≡ isPlain (f .style)
 
--- from s to t, some runs were measured
+-- If s tells of a frame, t tells of it with these runs written behind, whatever the row hash.
 abbrev pub Measures : ℕ → (ℕ → ℕ) → List Run → Measured → Measured → Type 0
 Measures columns cells rs s t = (seed : ℕ) (step : ℕ → ℕ → ℕ) (f : Frame) → Tells s f → Tells t (folded (rewriteRun (ruleAt columns cells seed step)) f rs)
 

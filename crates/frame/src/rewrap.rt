@@ -88,6 +88,7 @@ impl<R: RowHash> Draft<R> {
             Line::Open => self.store.open_run(k),
         }
     }
+
     // The runs of a row more: at most 1,024, of at most 16,384 bytes each.
     fn measure_line<C: WidthRule>(&self, start: Measured, columns: u16, line: Line) -> Measured
         requires { ⌜ Room (1024 * 16385 + 1) (start .counts) ⌝ }
@@ -102,6 +103,7 @@ impl<R: RowHash> Draft<R> {
         }
         end
     }
+
     // The counts of the draft wrapped anew.
     pub(crate) fn measure_rewrap<C: WidthRule>(&self, columns: u16) -> Counts
         ensures value { λ r. ⌜ countsOf r ≡ tallyOf (rewrapped (ruleAt columns (C·WidthRule .cells) (R·RowHash .seed) (R·RowHash .step)) (frameOf (now (self .entry)))) ⌝ }
@@ -114,6 +116,7 @@ impl<R: RowHash> Draft<R> {
         }
         self.measure_line::<C>(end, columns, Line::Open).counts
     }
+
     // The runs of another draft's row are written.
     fn rewrite_line<C: WidthRule>(&mut self, columns: u16, from: &Draft<R>, line: Line)
         requires { ⌜ Within (tallyOf (folded (rewriteRun (ruleAt columns (C·WidthRule .cells) (R·RowHash .seed) (R·RowHash .step))) (frameOf (now self)) (runsIn line (frameOf (now from))))) ⌝ }

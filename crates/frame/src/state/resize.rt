@@ -2,7 +2,7 @@
 ghost use mathlib.Core.Path.{_≡_};
 ghost use Rattle.std.specs.Results.{Cases};
 ghost use Rattle.frame.specs.Drafts.{ruleAt};
-ghost use Rattle.frame.specs.Rewraps.{Resizes, TooSmall};
+ghost use Rattle.frame.specs.Rewraps.{Resizes, DeniesSize};
 use super::FrameState;
 use crate::error::FrameError;
 use size::TerminalSize;
@@ -18,7 +18,7 @@ impl<C: WidthRule, R: RowHash> FrameState<C, R> {
         new_size: TerminalSize,
         spare: &mut FrameState<C, R>,
     ) -> Result<(), FrameError>
-        ensures { λ r. ⌜ Cases r (λ _. Resizes (ruleAt («new_size» .width) (C·WidthRule .cells) (R·RowHash .seed) (R·RowHash .step)) «new_size» (now (self .entry)) (now (self .exit)) (now (spare .entry)) (now (spare .exit))) (λ e. TooSmall (ruleAt («new_size» .width) (C·WidthRule .cells) (R·RowHash .seed) (R·RowHash .step)) «new_size» (now (self .entry)) e × (now (self .exit) ≡ now (self .entry)) × (now (spare .exit) ≡ now (spare .entry))) ⌝ }
+        ensures { λ r. ⌜ Cases r (λ _. Resizes (ruleAt («new_size» .width) (C·WidthRule .cells) (R·RowHash .seed) (R·RowHash .step)) «new_size» (now (self .entry)) (now (self .exit)) (now (spare .entry)) (now (spare .exit))) (λ e. DeniesSize (ruleAt («new_size» .width) (C·WidthRule .cells) (R·RowHash .seed) (R·RowHash .step)) «new_size» (now (self .entry)) e × (now (self .exit) ≡ now (self .entry)) × (now (spare .exit) ≡ now (spare .entry))) ⌝ }
     {
         if self.terminal_size == new_size {
             return Ok(());
