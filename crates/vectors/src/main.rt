@@ -1,6 +1,7 @@
 // Replays stored answers: those of the Rust, answers made by hand for sequences that CAN and SUB end, and published
 // vectors of FNV-1a.
 mod fnv;
+mod frames;
 mod pieces;
 
 use std::alloc::Global;
@@ -11,6 +12,7 @@ use std::fs;
 #[derive(Clone, Copy)]
 enum Kind {
     Pieces,
+    Frames,
     Fnv,
 }
 
@@ -21,6 +23,13 @@ fn agrees(heap: Global, kind: Kind, line: &str) -> Result<bool, AnyError> {
     };
     match kind {
         Kind::Pieces => pieces::agrees(heap, text, answer, fields.next().unwrap_or("")),
+        Kind::Frames => frames::agrees(
+            heap,
+            text,
+            answer,
+            fields.next().unwrap_or(""),
+            fields.next().unwrap_or(""),
+        ),
         Kind::Fnv => fnv::agrees(heap, text, answer),
     }
 }
@@ -45,8 +54,9 @@ fn replay(rt: &LibcRuntime, name: &str, file: &str, kind: Kind) -> Result<bool, 
 fn run(rt: &LibcRuntime) -> Result<(), AnyError> {
     let pieces = replay(rt, "pieces", "pieces.txt", Kind::Pieces)?;
     let cancel = replay(rt, "cancel", "cancel.txt", Kind::Pieces)?;
+    let frames = replay(rt, "frames", "frames.txt", Kind::Frames)?;
     let fnv = replay(rt, "fnv", "fnv.txt", Kind::Fnv)?;
-    if pieces && cancel && fnv {
+    if pieces && cancel && frames && fnv {
         Ok(())
     } else {
         Err("some stored answers differ".into())
