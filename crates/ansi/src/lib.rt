@@ -1,4 +1,7 @@
 // Text that may hold escape sequences, read piece by piece.
+
+#![tactic(auto)]
+
 mod matcher;
 mod pieces;
 mod refusal;

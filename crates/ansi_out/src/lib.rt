@@ -1,4 +1,7 @@
 // A terminal that writes bytes.
+
+#![tactic(auto)]
+
 mod calls;
 mod methods;
 mod out;

@@ -1,4 +1,7 @@
 // Times the reading of a text into pieces, and its writing to a frame.
+
+#![tactic(auto)]
+
 mod writes;
 
 use ansi::{AnsiAware, AnsiAwareChars, AnsiStrippable, Piece};

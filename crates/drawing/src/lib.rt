@@ -1,4 +1,7 @@
 // The rows of a frame on the page of a terminal.
+
+#![tactic(auto)]
+
 mod error;
 mod law;
 mod moves;

@@ -1,4 +1,7 @@
 // A frame: texts written one after another, as rows of runs.
+
+#![tactic(auto)]
+
 mod draft;
 mod error;
 mod examples;

@@ -1,5 +1,7 @@
 //! Bytes as text in lowercase hex, where `-` stands for no bytes.
 
+#![tactic(auto)]
+
 ghost use Rattle.std.specs.Prelude.{◌≡◌, ℕ, ◌/◌, ◌%◌, ◌<◌, List, IfOk, Some, MatchOption, ◌≢◌};
 ghost use Rattle.hexadecimal.specs.Hex.{digit_of, digits_of, hex_of, Bytes, Reads, OneAnswer, ReadsBack};
 ghost use Rattle.std.specs.Option.{option_map};

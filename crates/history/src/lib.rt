@@ -1,4 +1,7 @@
 // What a renderer does over whole histories of calls, and the law of its page.
+
+#![tactic(auto)]
+
 ghost use Rattle.history.specs.Law.{Law};
 
 mod error;

@@ -1,5 +1,8 @@
 // How texts become rows. The definitions are in specs/; each function decides one step, and its contract names a
 // theorem on them.
+
+#![tactic(auto)]
+
 mod hashes;
 mod limits;
 mod rows;

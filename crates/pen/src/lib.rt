@@ -1,4 +1,7 @@
 // Colour sequences, the pen that they steer, and the texts that a frame takes.
+
+#![tactic(auto)]
+
 mod check;
 mod pen;
 mod sequence;

@@ -1,4 +1,7 @@
 // Lists the pieces of a text: escape sequences and characters.
+
+#![tactic(auto)]
+
 mod lines;
 mod listing;
 

@@ -1,4 +1,7 @@
 // Plays a script of writes on a frame, and prints the answers and the rows.
+
+#![tactic(auto)]
+
 mod play;
 mod styles;
 

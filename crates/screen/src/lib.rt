@@ -1,4 +1,7 @@
 // A terminal over lent cells.
+
+#![tactic(auto)]
+
 mod cell;
 mod cells;
 mod purse;

@@ -1,4 +1,7 @@
 // Sizes and places on a terminal.
+
+#![tactic(auto)]
+
 mod dimension;
 mod position;
 mod terminal_size;

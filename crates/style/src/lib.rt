@@ -1,5 +1,7 @@
 //! Colours, attributes and the styles made of them.
 
+#![tactic(auto)]
+
 mod color;
 mod style;
 

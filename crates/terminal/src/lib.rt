@@ -1,4 +1,7 @@
 // What a terminal means: a page of cells and a cursor, and what each call does to it.
+
+#![tactic(auto)]
+
 mod fault;
 mod run;
 mod terminal;

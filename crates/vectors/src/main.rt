@@ -1,5 +1,8 @@
 // Replays stored answers: those of the Rust, answers made by hand for sequences that CAN and SUB end, and published
 // vectors of FNV-1a.
+
+#![tactic(auto)]
+
 mod fnv;
 mod frames;
 mod pieces;

@@ -1,5 +1,7 @@
 //! How wide text is, and hashes of its bytes.
 
+#![tactic(auto)]
+
 mod hash;
 mod rule;
 #[cfg(test)]
