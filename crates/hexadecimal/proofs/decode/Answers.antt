@@ -10,6 +10,6 @@ returns-then-eq c = record {
 
 pub returns-else-eq : goal.returns-else-eq
 returns-else-eq c = record {
-  value = by_digits _ _ (search rules) c.decode-digits.result (search rules);
+  value = by_digits _ _ (search rules) c.decode_digits.result (search rules);
   law = (one_answer, reads-back);
 }

@@ -10,6 +10,6 @@ loop-c-preserved g c = let e = sum_by_push g.R.WidthRule.cells c.loop-c.yielded 
 pub returns : goal.returns
 returns g c =
     let all : c.loop-c.yielded ≡ chars c.args.text.now =
-    Chars-Drains _ _ c.into-iter-c-iterator.result (search (rules, encodes-chars))
-    (c.next.new.self, (c.loop-c.c-iterator, c.loop-c.yielded-by, c.in-None.ensures.steps)) in
+    Chars-Drains _ _ c.into_iter-c-iterator.result (search (rules, encodes-chars))
+    (c.next.new.self, (c.loop-c.c-iterator, c.loop-c.yielded_by, c.in-None.ensures.steps)) in
     cc

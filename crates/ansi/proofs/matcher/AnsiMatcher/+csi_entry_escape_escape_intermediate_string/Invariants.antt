@@ -2,14 +2,14 @@
 use Rattle.std.proofs.Common.{◌-◌, length}
 use Rattle.ansi.proofs.matcher.AnsiMatcher.+csi_entry_escape_escape_intermediate_string.Given as goal
 
-abbrev pub decreases-csi-entry : goal.decreases-csi-entry
-decreases-csi-entry l = length l.self.now.input.now - l.at
+abbrev pub decreases-csi_entry : goal.decreases-csi_entry
+decreases-csi_entry l = length l.self.now.input.now - l.at
 
 abbrev pub decreases-escape : goal.decreases-escape
 decreases-escape l = length l.self.now.input.now - l.at
 
-abbrev pub decreases-escape-intermediate : goal.decreases-escape-intermediate
-decreases-escape-intermediate l = length l.self.now.input.now - l.at
+abbrev pub decreases-escape_intermediate : goal.decreases-escape_intermediate
+decreases-escape_intermediate l = length l.self.now.input.now - l.at
 
 abbrev pub decreases-string : goal.decreases-string
 decreases-string l = length l.self.now.input.now - l.at

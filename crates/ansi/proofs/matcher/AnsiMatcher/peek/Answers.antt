@@ -22,7 +22,7 @@ module _ (text : List ℕ) (at : ℕ) (within : at ≤ length text) (rest : List
       }
 
 pub returns-in-None : goal.returns-in-None
-returns-in-None c = ended _ _ c.requires.0 _ c.range-from.ensures.value c.in-None.ensures
+returns-in-None c = ended _ _ c.requires.0 _ c.range_from.ensures.value c.in-None.ensures
 
 pub returns-in-Some : goal.returns-in-Some
-returns-in-Some c = steps _ _ c.requires.0 _ c.range-from.ensures.value _ _ c.in-Some.ensures
+returns-in-Some c = steps _ _ c.requires.0 _ c.range_from.ensures.value _ _ c.in-Some.ensures

@@ -13,7 +13,7 @@ returns-in-Some-eq27-default c =
     let text : IsUtf8 s.input.now = search rules in
     let end = c.escape.ensures.value in
     record {
-      steps = takes-escape s _ text refl _ (search rules) c.place-place.ensures (ap sequence (c.split-at.ensures.front ∙ ap (λ n. take n (unread s)) end)) (c.split-at.ensures.back ∙ ap (λ n. drop n (unread s)) end);
+      steps = takes-escape s _ text refl _ (search rules) c.place-place.ensures (ap sequence (c.split_at.ensures.front ∙ ap (λ n. take n (unread s)) end)) (c.split_at.ensures.back ∙ ap (λ n. drop n (unread s)) end);
       goes = search rules;
     }
 

@@ -10,9 +10,9 @@ loop-input-preserved c =
     let unread = c.loop-input.input.now in
     let text : IsUtf8 unread = search rules in
     let begins : chars unread ≡ 27 ∷ from unread 1 = search rules in
-    let rest = c.range-from-input.ensures.value ∙ ap (λ n. drop n unread) c.escape.ensures.value in
+    let rest = c.range_from-input.ensures.value ∙ ap (λ n. drop n unread) c.escape.ensures.value in
     let same = ap letters (first-escape unread text (from unread 1) begins) ∙ ap (λ l. letters (pieces l)) (sym rest) in
-    (c.loop-input.invariant.0 ∙ same, search rules, c.range-from-input.utf8)
+    (c.loop-input.invariant.0 ∙ same, search rules, c.range_from-input.utf8)
 
 pub returns-in-Some : goal.returns-in-Some
 returns-in-Some c =
