@@ -1,2 +1,3 @@
 pub mod Codes
-pub mod Distinct
+pub mod Together
+pub mod Equal

@@ -2,3 +2,4 @@ pub mod Colors
 pub mod Attrs
 pub mod Styles
 pub mod Bytes
+pub mod Distinct

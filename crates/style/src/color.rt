@@ -1,11 +1,12 @@
 //! The colours of text.
 
-ghost use Rattle.std.specs.Prelude.{◌≡◌, Decides};
+ghost use Rattle.std.specs.Prelude.{◌≡◌, ◌==◌, Decides};
 ghost use Rattle.style.specs.Bytes.{color_bytes};
 ghost use Rattle.style.specs.Colors.{code_of, named, CodesName};
 ghost use Rattle.std.specs.Cmp.Rules.{comparing};
 ghost use Rattle.std.proofs.Common.{rules};
-ghost use Rattle.std.specs.Cmp as Keys;
+ghost use Rattle.std.specs.Cmp.Lexicographic.{pointwise};
+ghost use Rattle.std.specs.Ordering.{on};
 
 /// A colour of text.
 ///
@@ -89,17 +90,27 @@ impl Color {
 
 /// Written out, since a derived one of so many variants promises nothing.
 impl PartialEq for Color {
-    ghost equals = { λ c d r. Decides r (c ≡ d) };
+    ghost eq = { on color_bytes (pointwise ◌==◌) };
 
-    ghost laws = { Keys.partial_equiv_from_equiv (Prim.search (comparing, rules)) };
+    ghost laws = { Prim.search (comparing, rules) };
 
-    fn eq(&self, other: &Color) -> bool {
+    fn eq(&self, other: &Color) -> bool
+        ensures bytes { result ≡ pointwise ◌==◌ (color_bytes self.now) (color_bytes other.now) }
+        ensures decides { Decides result (self.now ≡ other.now) }
+    {
         self.to_bytes() == other.to_bytes()
     }
 }
 
 impl Eq for Color {
     ghost laws = { Prim.search (comparing, rules) };
+}
+
+#[derived]
+impl Hash for Color {
+    ghost use Rattle.style.specs.Distinct.{colors-decide};
+
+    ghost respects_eq = { λ x y h. let e : x ≡ y = (colors-decide x y).0 h in Prim.cc };
 }
 
 /// The named colours in the order of their codes.

@@ -1,12 +1,13 @@
 //! Attributes, style sheets and styled contents.
 
-ghost use Rattle.std.specs.Prelude.{◌≡◌, Decides, nat_lt};
+ghost use Rattle.std.specs.Prelude.{◌≡◌, ◌==◌, ◌&&◌, Decides, nat_lt};
 ghost use Rattle.style.specs.Attrs.{no_flags, Contains, joined, bits_of, attributes_of, BitsTell, without};
 ghost use Rattle.style.specs.Bytes.{optional_bytes, style_bytes, BytesTell};
 ghost use Rattle.style.specs.Styles.{plain, is_plain, OnlyPlain, styled, Alike, with_fg, with_bg, with_attr};
 ghost use Rattle.std.specs.Cmp.Rules.{comparing};
 ghost use Rattle.std.proofs.Common.{rules};
-ghost use Rattle.std.specs.Cmp as Keys;
+ghost use Rattle.std.specs.Cmp.Lexicographic.{pointwise};
+ghost use Rattle.std.specs.Ordering.{on, eq_of_both};
 
 use crate::color::Color;
 use std::fmt::Display;
@@ -206,17 +207,27 @@ impl Default for StyleSheet {
 
 /// Written out, to promise that it decides equality.
 impl PartialEq for StyleSheet {
-    ghost equals = { λ s t r. Decides r (s ≡ t) };
+    ghost eq = { on style_bytes (pointwise ◌==◌) };
 
-    ghost laws = { Keys.partial_equiv_from_equiv (Prim.search (comparing, rules)) };
+    ghost laws = { Prim.search (comparing, rules) };
 
-    fn eq(&self, other: &StyleSheet) -> bool {
+    fn eq(&self, other: &StyleSheet) -> bool
+        ensures bytes { result ≡ pointwise ◌==◌ (style_bytes self.now) (style_bytes other.now) }
+        ensures decides { Decides result (self.now ≡ other.now) }
+    {
         self.fg == other.fg && self.bg == other.bg && self.att == other.att
     }
 }
 
 impl Eq for StyleSheet {
     ghost laws = { Prim.search (comparing, rules) };
+}
+
+#[derived]
+impl Hash for StyleSheet {
+    ghost use Rattle.style.specs.Distinct.{styles-decide};
+
+    ghost respects_eq = { λ x y h. let e : x ≡ y = (styles-decide x y).0 h in Prim.cc };
 }
 
 /// A content with the style that it is to be shown in.
@@ -320,11 +331,14 @@ impl<T> PartialEq for Styled<T>
 where
     T: PartialEq + Display,
 {
-    ghost eq = { Alike (λ x' y' r'. r' ≡ T.PartialEq.eq x' y') };
+    ghost eq = { eq_of_both (on (λ a. a.style) (on style_bytes (pointwise ◌==◌))) (on (λ a. a.content) T.PartialEq.eq) };
 
     ghost laws = { Prim.search (comparing, rules) };
 
-    fn eq(&self, other: &Styled<T>) -> bool {
+    fn eq(&self, other: &Styled<T>) -> bool
+        ensures value { result ≡ (pointwise ◌==◌ (style_bytes self.now.style) (style_bytes other.now.style) && T.PartialEq.eq self.now.content other.now.content) }
+        ensures alike { Alike (λ x y r. r ≡ T.PartialEq.eq x y) self.now other.now result }
+    {
         self.style == other.style && self.content == other.content
     }
 }

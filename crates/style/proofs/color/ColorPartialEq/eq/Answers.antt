@@ -1,13 +1,14 @@
-use Rattle.std.proofs.Common.{sym, ap, ◌∙◌}
-use Rattle.std.proofs.lemmas.Slice.Eq.{slice_eq-Decides}
-use Rattle.std.proofs.lemmas.Bool.Decides.{Decides-like, Decides-eqb}
+use Rattle.std.proofs.Common.{ap, ◌∙◌, subst, sym, Bool, Decides, ◌≡◌, nat_eq}
+use Rattle.std.specs.Cmp.Lexicographic.{pointwise}
 use Rattle.style.specs.Bytes.{color_bytes}
-use Rattle.style.proofs.Distinct.{same-color}
+use Rattle.style.specs.Distinct.{colors-decide}
 use Rattle.style.proofs.color.ColorPartialEq.eq.Goals as goal
 
 pub returns : goal.returns
 returns c =
-    Decides-like c.eq.result
-    (λ e. same-color _ _ (sym c.to-bytes.ensures ∙ e ∙ c.to-bytes-2.ensures))
-    (λ e. c.to-bytes.ensures ∙ ap color_bytes e ∙ sym c.to-bytes-2.ensures)
-    (slice_eq-Decides Decides-eqb _ _ _ c.eq.ensures)
+    let bytes : c.eq.result ≡ pointwise nat_eq (color_bytes c.args.self.now) (color_bytes c.args.other.now) =
+    c.eq.ensures ∙ (λ i. pointwise nat_eq (c.to_bytes.ensures i) (c.to_bytes-2.ensures i)) in
+    record {
+      bytes = bytes;
+      decides = subst (λ (b : Bool). Decides b (c.args.self.now ≡ c.args.other.now)) (sym bytes) (colors-decide _ _);
+    }

@@ -1,11 +1,12 @@
--- Distinct styles have distinct bytes: the bytes tell the style.
-use Rattle.std.proofs.Common.{◌≡◌, ℕ, zero, suc, List, [], ◌∷◌, ◌++◌, length, get_or, Some, None, Option, sym, refl, ap, ◌∙◌, arith, length-append, rules}
+-- Distinct styles have distinct bytes: the bytes tell the style. The laws of `==` and of `Hash` rest on it.
+use Rattle.std.proofs.Common.{◌≡◌, ℕ, zero, suc, List, [], ◌∷◌, ◌++◌, length, get_or, Some, None, Option, Decides, nat_eq, sym, refl, ap, ◌∙◌, arith, length-append, rules}
+use Rattle.std.specs.Cmp.Lexicographic.{pointwise, bytes_decides}
 use Rattle.style.specs.declared.color.Color.{Color}
 use Rattle.style.specs.declared.color.Color.TheVariants.{Rgb, AnsiValue}
 use Rattle.style.specs.declared.style.Attributes.{Attributes}
 use Rattle.style.specs.declared.style.StyleSheet.{StyleSheet}
 use Rattle.style.specs.Attrs.{bits_of}
-use Rattle.style.specs.Bytes.{color_bytes, optional_bytes, style_bytes, BytesTell}
+use Rattle.style.specs.Bytes.{color_bytes, optional_bytes, style_bytes}
 use Rattle.style.specs.Colors.{named}
 
 -- The colour, if any, with this kind and three other bytes.
@@ -21,7 +22,7 @@ read bytes = told (get_or bytes 0 0) (get_or bytes 1 0) (get_or bytes 2 0) (get_
 read-optional : (o : Option Color) → read (optional_bytes o) ≡ o
 read-optional o = search rules
 
-optional-len : (o : Option Color) → length (optional_bytes o) ≡ 4
+pub optional-len : (o : Option Color) → length (optional_bytes o) ≡ 4
 optional-len o = search rules
 
 same-optional : (o p : Option Color) → optional_bytes o ≡ optional_bytes p → o ≡ p
@@ -51,25 +52,9 @@ distinct s t e =
     let att : s.att ≡ t.att = same_bits _ _ (cc) in
     λ i. record { fg = same-optional s.fg t.fg fg.0 i; bg = same-optional s.bg t.bg bg.0 i; att = att i }
 
-nine : (s : StyleSheet) → length (style_bytes s) ≡ 9
-unfolding style_bytes
-nine s = simp (length-append, optional-len)
+-- A test of the bytes decides equality.
+pub colors-decide : (c d : Color) → Decides (pointwise nat_eq (color_bytes c) (color_bytes d)) (c ≡ d)
+colors-decide c d = (λ e. same-color c d ((bytes_decides _ _).0 e), λ e. (bytes_decides _ _).1 (ap color_bytes e))
 
-pub bytes-tell : BytesTell
-bytes-tell = record { nine = nine; distinct = distinct }
-
--- Four bytes that are read one by one and put in front of others.
-abbrev in_front : List ℕ → List ℕ → List ℕ
-in_front xs rest = get_or xs 0 0 ∷ get_or xs 1 0 ∷ get_or xs 2 0 ∷ get_or xs 3 0 ∷ rest
-
-optional-in-front : (o : Option Color) (rest : List ℕ) → in_front (optional_bytes o) rest ≡ optional_bytes o ++ rest
-optional-in-front o rest = search rules
-
-pub put-together : (s : StyleSheet) (fg bg : List ℕ) (n : ℕ)
-    → fg ≡ optional_bytes s.fg → bg ≡ optional_bytes s.bg → n ≡ bits_of s.att
-    → in_front fg (in_front bg (n ∷ [])) ≡ style_bytes s
-unfolding style_bytes
-put-together s fg bg n f b a =
-    (λ i. in_front (f i) (in_front (b i) (a i ∷ [])))
-    ∙ optional-in-front s.fg _
-    ∙ ap (λ rest. optional_bytes s.fg ++ rest) (optional-in-front s.bg _)
+pub styles-decide : (s t : StyleSheet) → Decides (pointwise nat_eq (style_bytes s) (style_bytes t)) (s ≡ t)
+styles-decide s t = (λ e. distinct s t ((bytes_decides _ _).0 e), λ e. (bytes_decides _ _).1 (ap style_bytes e))
