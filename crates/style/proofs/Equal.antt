@@ -1,5 +1,5 @@
 -- Two styles that are tested field by field, and so decided equal.
-use Rattle.std.proofs.Common.{◌≡◌, Bool, true, false, ◌&&◌, Decides, nat_eq, Some, None, Option, sym, refl, ap, ◌∙◌, subst, rules}
+use Rattle.std.proofs.Common.{◌≡◌, Bool, true, false, ◌&&◌, Decides, nat_eq, Some, None, Option, refl, ap}
 use Rattle.std.proofs.lemmas.Bool.Decides.{same_from_decides, Decides-at}
 use Rattle.std.specs.Cmp.{booleans_Decides}
 use Rattle.std.specs.Cmp.Lexicographic.{pointwise}

@@ -1,5 +1,5 @@
 -- Attributes of text: two flags.
-use Rattle.std.specs.Prelude.{◌≡◌, ℕ, ◌+◌, true, false, cond, not, ◌&&◌, ◌||◌, List, [], ◌∷◌, Some, Option}
+use Rattle.std.specs.Prelude.{◌≡◌, ℕ, ◌+◌, true, false, cond, not, ◌&&◌, ◌||◌, [], ◌∷◌, Some, Option}
 use Rattle.std.specs.List.{slice_get}
 use Rattle.style.specs.declared.style.Attributes.{Attributes}
 

@@ -1,5 +1,5 @@
 -- Distinct styles have distinct bytes: the bytes tell the style. The laws of `==` and of `Hash` rest on it.
-use Rattle.std.proofs.Common.{◌≡◌, ℕ, zero, suc, List, [], ◌∷◌, ◌++◌, length, get_or, Some, None, Option, Decides, nat_eq, sym, refl, ap, ◌∙◌, arith, length-append, rules}
+use Rattle.std.proofs.Common.{◌≡◌, ℕ, zero, suc, List, [], ◌∷◌, ◌++◌, length, get_or, Some, None, Option, Decides, nat_eq, sym, refl, ap, ◌∙◌, arith, rules}
 use Rattle.std.specs.Cmp.Lexicographic.{pointwise, bytes_decides}
 use Rattle.style.specs.declared.color.Color.{Color}
 use Rattle.style.specs.declared.color.Color.TheVariants.{Rgb, AnsiValue}

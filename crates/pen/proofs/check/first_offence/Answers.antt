@@ -37,7 +37,7 @@ loop-piece-preserved c =
     let takes = subst (λ q. Takes s q t) c.in-Char.is c.in-Some.ensures.steps in
     let free : is_barred c.in-Char.c ≡ false = search rules in
     let fine = ap (λ b. cond b (Some (Control at)) None) free in
-    let size : length (encode c.in-Char.c) ≡ c.len-utf8-place.result = length-encode _ ∙ sym c.len-utf8-place.ensures.value in (
-      subst (λ n. first_offence (at + n) (remaining t) ≡ first_offence 0 (remaining c.into-iter-piece-iterator.result)) size (passes s t _ at takes _ fine c.loop-piece.invariant.0),
-      subst (λ n. at + n + length (unread t) ≡ length (unread c.into-iter-piece-iterator.result)) size (moves s t _ at takes _ c.loop-piece.invariant.1),
+    let size : length (encode c.in-Char.c) ≡ c.len_utf8-place.result = length-encode _ ∙ sym c.len_utf8-place.ensures.value in (
+      subst (λ n. first_offence (at + n) (remaining t) ≡ first_offence 0 (remaining c.into_iter-piece-iterator.result)) size (passes s t _ at takes _ fine c.loop-piece.invariant.0),
+      subst (λ n. at + n + length (unread t) ≡ length (unread c.into_iter-piece-iterator.result)) size (moves s t _ at takes _ c.loop-piece.invariant.1),
     )

@@ -1,4 +1,4 @@
-use Rattle.std.proofs.Common.{ap, ◌∙◌, subst, sym, Bool, Decides, ◌≡◌, nat_eq}
+use Rattle.std.proofs.Common.{◌∙◌, subst, sym, Bool, Decides, ◌≡◌, nat_eq}
 use Rattle.std.specs.Cmp.Lexicographic.{pointwise}
 use Rattle.style.specs.Bytes.{color_bytes}
 use Rattle.style.specs.Distinct.{colors-decide}

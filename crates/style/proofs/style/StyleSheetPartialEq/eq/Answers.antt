@@ -1,4 +1,4 @@
-use Rattle.std.proofs.Common.{◌≡◌, ◌&&◌, Bool, true, false, ◌∙◌, sym}
+use Rattle.std.proofs.Common.{◌≡◌, ◌&&◌, true, false, ◌∙◌, sym}
 use Rattle.style.proofs.Equal.{colors_test, attributes_test, fields_test, fields-are-bytes, told-equal}
 use Rattle.style.proofs.style.StyleSheetPartialEq.eq.Goals as goal
 use Rattle.style.proofs.style.StyleSheetPartialEq.eq.Goals.{then-eq, else-eq}
