@@ -13,7 +13,8 @@ pub(crate) enum Answer {
 }
 
 fn push_refusal(out: &mut String, refusal: Refusal) -> fmt::Result {
-    write!(out, "refused {} {}", refusal.number(), refusal.place())
+    write!(out, "refused {} {}", refusal.number(), refusal.place())?;
+    Ok(())
 }
 
 // A space before each word but the first.

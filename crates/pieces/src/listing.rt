@@ -64,7 +64,8 @@ fn push_counts(out: &mut String, bytes: usize, counts: Counts) -> fmt::Result {
     writeln!(
         out,
         "read {bytes} bytes: {pieces} pieces, {escapes} escapes, {colours} colour sequences, {chars} characters"
-    )
+    )?;
+    Ok(())
 }
 
 pub(crate) fn listing(heap: Global, text: &[u8]) -> Result<String, fmt::Error> {

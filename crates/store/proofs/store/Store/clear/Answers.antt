@@ -3,8 +3,8 @@ use Rattle.store.proofs.Grow.{empty-pile, empty-kept}
 use Rattle.store.specs.Stores.{pile_of}
 use Rattle.store.proofs.store.Store.clear.Goals as goal
 
-pub invariant-of-self : goal.invariant-of-self
-invariant-of-self c = (search rules, (search rules, empty-kept _ _ _ c.clear.ensures.bytes c.clear-2.ensures.items c.clear-3.ensures.items))
+pub invariant_of-self : goal.invariant_of-self
+invariant_of-self c = (search rules, (search rules, empty-kept _ _ _ c.clear.ensures.bytes c.clear-2.ensures.items c.clear-3.ensures.items))
 
 pub returns : goal.returns
 unfolding pile_of

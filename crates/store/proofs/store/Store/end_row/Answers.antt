@@ -7,15 +7,15 @@ use Rattle.store.proofs.store.Store.end_row.Goals as goal
 pub returns-then-len-ge-ROWS : goal.returns-then-len-ge-ROWS
 returns-then-len-ge-ROWS c = (omega (arith, rows-count c.args.self.now), refl)
 
-pub invariant-of-self : goal.invariant-of-self
-invariant-of-self c =
+pub invariant_of-self : goal.invariant_of-self
+invariant_of-self c =
     let s = c.args.self.now in
-    (search rules, (search rules, row_kept _ _ _ _ _ (sound s) c.args.width c.args.hash _ _ (omega (arith, c.len-to.ensures, s.runs.ok.0)) c.push-reserved.ensures.items))
+    (search rules, (search rules, row_kept _ _ _ _ _ (sound s) c.args.width c.args.hash _ _ (omega (arith, c.len-to.ensures, s.runs.ok.0)) c.push_reserved.ensures.items))
 
 pub returns : goal.returns
 unfolding pile_of
 returns c =
     let s = c.args.self.now in (
       omega (arith, rows-count s),
-      row-pile _ _ _ _ _ (sound s) c.args.width c.args.hash _ _ (omega (arith, c.len-to.ensures, s.runs.ok.0)) c.push-reserved.ensures.items,
+      row-pile _ _ _ _ _ (sound s) c.args.width c.args.hash _ _ (omega (arith, c.len-to.ensures, s.runs.ok.0)) c.push_reserved.ensures.items,
     )

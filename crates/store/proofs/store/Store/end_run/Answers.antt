@@ -7,15 +7,15 @@ use Rattle.store.proofs.store.Store.end_run.Goals as goal
 pub returns-then-len-ge-RUNS : goal.returns-then-len-ge-RUNS
 returns-then-len-ge-RUNS c = (omega (arith, runs-held c.args.self.now), refl)
 
-pub invariant-of-self : goal.invariant-of-self
-invariant-of-self c =
+pub invariant_of-self : goal.invariant_of-self
+invariant_of-self c =
     let s = c.args.self.now in
-    (search rules, (search rules, run-kept _ _ _ _ _ (sound s) c.args.style _ _ (omega (arith, c.len-to.ensures, s.bytes.bytes.ok.0)) c.push-reserved.ensures.items))
+    (search rules, (search rules, run-kept _ _ _ _ _ (sound s) c.args.style _ _ (omega (arith, c.len-to.ensures, s.bytes.bytes.ok.0)) c.push_reserved.ensures.items))
 
 pub returns : goal.returns
 unfolding pile_of
 returns c =
     let s = c.args.self.now in (
       omega (arith, s.sized.1, s.runs.ok.0),
-      run-pile _ _ _ _ _ (sound s) c.args.style _ _ (omega (arith, c.len-to.ensures, s.bytes.bytes.ok.0)) c.push-reserved.ensures.items,
+      run-pile _ _ _ _ _ (sound s) c.args.style _ _ (omega (arith, c.len-to.ensures, s.bytes.bytes.ok.0)) c.push_reserved.ensures.items,
     )

@@ -7,17 +7,17 @@ use Rattle.store.proofs.store.Store.put.Goals as goal
 pub returns-then-text-len : goal.returns-then-text-len
 returns-then-text-len c = (omega (arith, bytes-held c.args.self.now), refl)
 
-pub invariant-of-self : goal.invariant-of-self
-invariant-of-self c =
+pub invariant_of-self : goal.invariant_of-self
+invariant_of-self c =
     let s = c.args.self.now in
-    let t = c.push-str.ensures.succeeds (omega (arith, s.room.0)) in
-    let e = c.push-str.ensures.bytes ∙ ap (λ (b : Bool). cond b (string_bytes s.bytes ++ c.args.text.now) (string_bytes s.bytes)) t in
+    let t = c.push_str.ensures.succeeds (omega (arith, s.room.0)) in
+    let e = c.push_str.ensures.bytes ∙ ap (λ (b : Bool). cond b (string_bytes s.bytes ++ c.args.text.now) (string_bytes s.bytes)) t in
     (search rules, (search rules, put-kept _ _ _ _ _ (sound s) c.args.text.now _ e (search rules)))
 
 pub returns : goal.returns
 unfolding pile_of
 returns c =
     let s = c.args.self.now in
-    let t = c.push-str.ensures.succeeds (omega (arith, s.room.0)) in
-    let e = c.push-str.ensures.bytes ∙ ap (λ (b : Bool). cond b (string_bytes s.bytes ++ c.args.text.now) (string_bytes s.bytes)) t in
+    let t = c.push_str.ensures.succeeds (omega (arith, s.room.0)) in
+    let e = c.push_str.ensures.bytes ∙ ap (λ (b : Bool). cond b (string_bytes s.bytes ++ c.args.text.now) (string_bytes s.bytes)) t in
     (omega (arith, s.sized.0, s.bytes.bytes.ok.0), put-pile _ _ _ _ _ (sound s) c.args.text.now _ e)

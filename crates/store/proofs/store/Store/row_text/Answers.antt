@@ -17,9 +17,9 @@ range-requires c =
     let w = c.index-row.result.now in
     let h = row_inside s c.args.i w (omega arith) c.index-row.ensures in
     record {
-      start-le-end = row-forward s c.args.i w (omega arith) c.index-row.ensures c.index-first.result.now c.index-last.result.now c.if-row.false c.index-first.ensures c.index-last.ensures;
-      start-boundary = λ _. run-begins s w.from c.index-first.result.now (omega (arith, h)) c.index-first.ensures _ c.as-str.ensures.value;
-      end-boundary = run_ends s _ c.index-last.result.now (omega (arith, h)) c.index-last.ensures _ c.as-str.ensures.value;
+      start_le_end = row-forward s c.args.i w (omega arith) c.index-row.ensures c.index-first.result.now c.index-last.result.now c.if-row.false c.index-first.ensures c.index-last.ensures;
+      start_boundary = λ _. run-begins s w.from c.index-first.result.now (omega (arith, h)) c.index-first.ensures _ c.as_str.ensures.value;
+      end_boundary = run_ends s _ c.index-last.result.now (omega (arith, h)) c.index-last.ensures _ c.as_str.ensures.value;
     }
 
 pub returns : goal.returns
@@ -27,5 +27,5 @@ returns c =
     let s = c.args.self.now in
     let w = c.index-row.result.now in (
       omega (arith, rows-count s),
-      c.range.ensures.value ∙ row-whole s c.args.i w (omega arith) c.index-row.ensures c.index-first.result.now c.index-last.result.now c.if-row.false c.index-first.ensures c.index-last.ensures _ c.as-str.ensures.value,
+      c.range.ensures.value ∙ row-whole s c.args.i w (omega arith) c.index-row.ensures c.index-first.result.now c.index-last.result.now c.if-row.false c.index-first.ensures c.index-last.ensures _ c.as_str.ensures.value,
     )

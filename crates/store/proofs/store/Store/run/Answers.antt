@@ -15,4 +15,4 @@ returns c =
     let x = c.index-row.result.now in
     let n = row_count s c.args.i x (omega arith) c.index-row.ensures in
     let e = row-run s c.args.i x (omega arith) c.index-row.ensures c.args.k (omega arith) in
-    (omega (arith, n), c.run-at.ensures.text ∙ sym (ap (λ (r : Run). r.text) e), c.run-at.ensures.style ∙ sym (ap (λ (r : Run). r.style) e))
+    (omega (arith, n), c.run_at.ensures.text ∙ sym (ap (λ (r : Run). r.text) e), c.run_at.ensures.style ∙ sym (ap (λ (r : Run). r.style) e))

@@ -8,9 +8,9 @@ range-requires c =
     let s = c.args.self.now in
     let x = c.index-run.result.now in
     record {
-      start-le-end = (run_inside s c.args.i x c.requires c.index-run.ensures).0;
-      start-boundary = λ _. run-begins s c.args.i x c.requires c.index-run.ensures _ c.as-str.ensures.value;
-      end-boundary = run_ends s c.args.i x c.requires c.index-run.ensures _ c.as-str.ensures.value;
+      start_le_end = (run_inside s c.args.i x c.requires c.index-run.ensures).0;
+      start_boundary = λ _. run-begins s c.args.i x c.requires c.index-run.ensures _ c.as_str.ensures.value;
+      end_boundary = run_ends s c.args.i x c.requires c.index-run.ensures _ c.as_str.ensures.value;
     }
 
 pub returns : goal.returns
@@ -18,6 +18,6 @@ returns c =
     let s = c.args.self.now in
     let x = c.index-run.result.now in
     record {
-      text = c.range.ensures.value ∙ run-text s c.args.i x c.requires c.index-run.ensures _ c.as-str.ensures.value;
+      text = c.range.ensures.value ∙ run-text s c.args.i x c.requires c.index-run.ensures _ c.as_str.ensures.value;
       style = sym (ap (λ (r : Run). r.style) (run-read s c.args.i x c.requires c.index-run.ensures));
     }

@@ -24,9 +24,9 @@ returns-then-here-there c =
       | then-here-there-via-else-here-there+else-here-there-2+then-count-there w ↦ w.if-count-there.true (same_count a b c.args.i c.args.j x y (omega arith) (omega arith) c.index-here.ensures c.index-there.ensures e.2)
     ])
 
-pub returns-then-not-same-run : goal.returns-then-not-same-run
-returns-then-not-same-run c =
-    never (λ e. not_from_Decides _ c.same-run.ensures c.if-not-same-run.true
+pub returns-then-not-same_run : goal.returns-then-not-same_run
+returns-then-not-same_run c =
+    never (λ e. not_from_Decides _ c.same_run.ensures c.if-not-same_run.true
     (same-run c.args.self.now c.args.other.now c.args.i c.args.j c.index-here.result.now c.index-there.result.now (omega arith) (omega arith) c.index-here.ensures c.index-there.ensures e.2 c.loop-k.k c.loop-k-test.true))
 
 pub returns : goal.returns
