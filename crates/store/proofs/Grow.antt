@@ -43,20 +43,21 @@ pub record Sound (bs : List ℕ) (rs : List Span) (ws : List RowSpan) (b s : ℕ
 pub sound : (f : Store) → Sound (string_bytes f.bytes) (vec_items f.runs) (vec_items f.rows) f.begins f.starts
 sound f = record { opens = f.opens; spans = f.spans; lines = f.lines; cuts = f.cuts; joins = f.joins; ends = f.ends; sized = f.sized }
 
--- and as a need asks for it
-abbrev pub Kept : List ℕ → List Span → List RowSpan → ℕ → ℕ → Type 0
-Kept bs rs ws b s = Opens bs rs b s × (RunsIn rs (length bs) × (RowsIn ws (length rs) × (Cuts bs rs × (Joins rs × (Ends rs s × (Sized bs rs ws b s × Unit {0}))))))
-
-kept : (bs : List ℕ) (rs : List Span) (ws : List RowSpan) (b s : ℕ) → Sound bs rs ws b s → Kept bs rs ws b s
-kept bs rs ws b s k = (k.opens, (k.spans, (k.lines, (k.cuts, (k.joins, (k.ends, (k.sized, tt)))))))
-
 pub empty-pile : (bs : List ℕ) (rs : List Span) (ws : List RowSpan) → bs ≡ [] → rs ≡ [] → ws ≡ [] → pile_at bs rs ws 0 0 ≡ empty
 empty-pile bs rs ws e f g = rw (e, f, g)
 
-pub empty-kept : (bs : List ℕ) (rs : List Span) (ws : List RowSpan) → bs ≡ [] → rs ≡ [] → ws ≡ [] → Kept bs rs ws 0 0
+pub empty-kept : (bs : List ℕ) (rs : List Span) (ws : List RowSpan) → bs ≡ [] → rs ≡ [] → ws ≡ [] → Sound bs rs ws 0 0
 unfolding bytes_of_runs bytes_of_rows runs_of_rows
 empty-kept bs rs ws e f g =
-    rw (e, f, g) ((omega arith, omega arith, refl), ((λ k d l. absurd (omega arith)), ((λ k d l. absurd (omega arith)), ((λ k d l. absurd (omega arith)), ((λ k d l. absurd (omega arith)), ((λ k d l. absurd (omega arith)), ((refl, refl), tt)))))))
+    rw (e, f, g) (record {
+      opens = (omega arith, omega arith, refl);
+      spans = (λ k d l. absurd (omega arith));
+      lines = (λ k d l. absurd (omega arith));
+      cuts = (λ k d l. absurd (omega arith));
+      joins = (λ k d l. absurd (omega arith));
+      ends = (λ k d l. absurd (omega arith));
+      sized = (refl, refl);
+    })
 
 module _ (bs : List ℕ) (rs : List Span) (ws : List RowSpan) (b s : ℕ) (ok : Sound bs rs ws b s) where
   module _ (cs bs' : List ℕ) (e : bs' ≡ bs ++ cs) where
@@ -71,13 +72,13 @@ module _ (bs : List ℕ) (rs : List Span) (ws : List RowSpan) (b s : ℕ) (ok : 
         let h = and_parts _ _ (ok.cuts k d l) in
         and_from _ _ (cut-grow bs cs _ u (omega (arith, ok.spans k d l)) h.0) (cut-grow bs cs _ u (ok.spans k d l).1 h.1)
 
-    pub put-kept : IsUtf8 cs → Kept bs' rs ws b s
+    pub put-kept : IsUtf8 cs → Sound bs' rs ws b s
     put-kept u =
         let n : length (bs ++ cs) ≡ length bs + length cs = length-append bs cs in
         let m : length bs' ≡ length bs + length cs = ap length e ∙ n in
         let p = pile_at bs rs ws b s in
         let z : Sized bs' rs ws b s = (omega (arith, ap bytes_of put-pile, put-bytes cs p, ok.sized.0), ap runs_of put-pile ∙ ok.sized.1) in
-        kept bs' rs ws b s (record {
+        record {
           opens = (omega (arith, ok.opens.0), ok.opens.1, rw e (cut-grow bs cs s u ok.opens.0 ok.opens.2));
           spans = (λ k d l. ((ok.spans k d l).0, omega (arith, (ok.spans k d l).1)));
           lines = ok.lines;
@@ -85,7 +86,7 @@ module _ (bs : List ℕ) (rs : List Span) (ws : List RowSpan) (b s : ℕ) (ok : 
           joins = ok.joins;
           ends = ok.ends;
           sized = z;
-        })
+        }
 
   module _ (y : StyleSheet) (n : ℕ) (rs' : List Span) (m : n ≡ length bs) (e : rs' ≡ rs ++ record { from = s; to = n; style = y } ∷ []) where
     abbrev new : Span
@@ -119,12 +120,12 @@ module _ (bs : List ℕ) (rs : List Span) (ws : List RowSpan) (b s : ℕ) (ok : 
     run_ends : Ends (rs ++ new ∷ []) n
     run_ends k d l = ap (λ (r : Span). r.to) (get_or_push rs new d k (omega (arith, length_push rs new)))
 
-    pub run-kept : Kept bs rs' ws b n
+    pub run-kept : Sound bs rs' ws b n
     run-kept =
         let j : length rs' ≡ length rs + 1 = ap length e ∙ length_push rs new in
         let p = pile_at bs rs ws b s in
         let z : Sized bs rs' ws b n = (ap bytes_of run-pile ∙ run-bytes y p ∙ ok.sized.0, omega (arith, ap runs_of run-pile, run-runs y p, ok.sized.1)) in
-        kept bs rs' ws b n (record {
+        record {
           opens = (omega arith, omega (arith, ok.opens.1), cut-end bs n m);
           spans = rw e run-spans;
           lines = (λ k d l. ((ok.lines k d l).0, omega (arith, (ok.lines k d l).1)));
@@ -132,7 +133,7 @@ module _ (bs : List ℕ) (rs : List Span) (ws : List RowSpan) (b s : ℕ) (ok : 
           joins = rw e run-joins;
           ends = rw e run_ends;
           sized = z;
-        })
+        }
 
   module _ (w h n : ℕ) (ws' : List RowSpan) (m : n ≡ length rs) (e : ws' ≡ ws ++ record { from = b; to = n; width = w; hash = h } ∷ []) where
     abbrev made : RowSpan
@@ -149,11 +150,11 @@ module _ (bs : List ℕ) (rs : List Span) (ws : List RowSpan) (b s : ℕ) (ok : 
     row-lines : RowsIn (ws ++ made ∷ []) (length rs)
     row-lines k d l = AllWithin-push (λ (r : RowSpan). (r.from ≤ r.to) × (r.to ≤ length rs)) ws made (λ k d l h. ok.lines k d h) (omega (arith, ok.opens.1), omega arith) k d (omega arith) l
 
-    pub row_kept : Kept bs rs ws' n s
+    pub row_kept : Sound bs rs ws' n s
     row_kept =
         let p = pile_at bs rs ws b s in
         let z : Sized bs rs ws' n s = (ap bytes_of row-pile ∙ row-bytes w h p ∙ ok.sized.0, ap runs_of row-pile ∙ row-runs w h p ∙ ok.sized.1) in
-        kept bs rs ws' n s (record {
+        record {
           opens = (ok.opens.0, omega arith, ok.opens.2);
           spans = ok.spans;
           lines = rw e row-lines;
@@ -161,4 +162,4 @@ module _ (bs : List ℕ) (rs : List Span) (ws : List RowSpan) (b s : ℕ) (ok : 
           joins = ok.joins;
           ends = ok.ends;
           sized = z;
-        })
+        }

@@ -10,7 +10,8 @@ returns-then-len-ge-ROWS c = (omega (arith, rows-count c.args.self.now), refl)
 pub invariant_of-self : goal.invariant_of-self
 invariant_of-self c =
     let s = c.args.self.now in
-    (search rules, (search rules, row_kept _ _ _ _ _ (sound s) c.args.width c.args.hash _ _ (omega (arith, c.len-to.ensures, s.runs.ok.0)) c.push_reserved.ensures.items))
+    let k = row_kept _ _ _ _ _ (sound s) c.args.width c.args.hash _ _ (omega (arith, c.len-to.ensures, s.runs.ok.0)) c.push_reserved.ensures.items in
+    record { room = search rules; limits = search rules; opens = k.opens; spans = k.spans; lines = k.lines; cuts = k.cuts; joins = k.joins; ends = k.ends; sized = k.sized }
 
 pub returns : goal.returns
 unfolding pile_of

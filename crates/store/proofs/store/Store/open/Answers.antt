@@ -5,7 +5,8 @@ use Rattle.store.proofs.store.Store.open.Goals as goal
 
 pub invariant_of-result : goal.invariant_of-result
 invariant_of-result c =
-    (search rules, (search rules, empty-kept _ _ _ c.in_ok-bytes.ensures.bytes c.in_ok-runs.ensures.items c.in_ok-rows.ensures.items))
+    let k = empty-kept _ _ _ c.in_ok-bytes.ensures.bytes c.in_ok-runs.ensures.items c.in_ok-rows.ensures.items in
+    record { room = search rules; limits = search rules; opens = k.opens; spans = k.spans; lines = k.lines; cuts = k.cuts; joins = k.joins; ends = k.ends; sized = k.sized }
 
 pub returns : goal.returns
 unfolding pile_of

@@ -12,7 +12,8 @@ invariant_of-self c =
     let s = c.args.self.now in
     let t = c.push_str.ensures.succeeds (omega (arith, s.room.0)) in
     let e = c.push_str.ensures.bytes ∙ ap (λ (b : Bool). cond b (string_bytes s.bytes ++ c.args.text.now) (string_bytes s.bytes)) t in
-    (search rules, (search rules, put-kept _ _ _ _ _ (sound s) c.args.text.now _ e (search rules)))
+    let k = put-kept _ _ _ _ _ (sound s) c.args.text.now _ e (search rules) in
+    record { room = search rules; limits = search rules; opens = k.opens; spans = k.spans; lines = k.lines; cuts = k.cuts; joins = k.joins; ends = k.ends; sized = k.sized }
 
 pub returns : goal.returns
 unfolding pile_of
