@@ -12,7 +12,8 @@ use Rattle.ansi.specs.Pieces.{Part, sequence, letter, pieces}
 use Rattle.ansi.proofs.Laws.{lawful}
 use Rattle.layout.specs.Frames.{Run, Row, Frame, Rule}
 use Rattle.layout.specs.Limits.{bytes_of_runs, bytes_of_rows, runs_of_rows, fits}
-use Rattle.layout.specs.Tally.{Tally, tally_of, tally_joins, tally_closed, tally_carried, tally_folding, tally_put, tally_all, tally_ended, tally_fits}
+use Rattle.layout.specs.Tally.{Tally, Within, tally_of, tally_joins, tally_closed, tally_carried, tally_folding, tally_put, tally_all, tally_ended, tally_fits}
+use Rattle.layout.proofs.Rooms.{fits-within}
 use Rattle.layout.specs.Writing.{some, run, closed, fresh, put_all, styled, ended, written, rewrite_run, rewrite_row, rewrapped}
 use Rattle.layout.proofs.Tallies.{style-ended, style-put-all, tally-fits, tally-put-all, tally-of-written}
 use Rattle.store.specs.Piles.{no_run, no_row}
@@ -196,3 +197,6 @@ module _ (k : Rule) (f : Frame) (end : Tally) (bare fit : Bool) (is : end ≡ ta
   pub rewrap-fits : fit ≡ fits k (rewrapped k f)
   unfolding rewrapped
   rewrap-fits = told ∙ (λ i. tally_fits (same i) (is i)) ∙ sym (tally-fits k (rewrapped k f))
+
+  pub rewrap-within : fit ≡ true → Within (tally_of (rewrapped k f))
+  rewrap-within e = fits-within k (rewrapped k f) (sym rewrap-fits ∙ e)

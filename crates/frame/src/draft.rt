@@ -19,7 +19,7 @@ use width::{RowHash, WidthRule};
 
 // What is stored, the style of the current run, and the open row's width and hash.
 #[derive(Drop)]
-pub(crate) struct Draft<R: RowHash> {
+pub(crate) struct Draft<R> {
     pub(crate) store: Store,
     pub(crate) style: StyleSheet,
     pub(crate) width: u16,

@@ -16,7 +16,7 @@ mod writes;
 /// The rows of a frame, by a width rule and a row hash. What it holds, finished now, keeps within 16,384 bytes, 1,024
 /// runs and 256 rows.
 #[derive(Drop)]
-pub struct FrameState<C: WidthRule, R: RowHash> {
+pub struct FrameState<C, R> {
     pub(crate) draft: Draft<R>,
     pub(crate) terminal_size: TerminalSize,
     pub(crate) expected_cursor_position: Option<Position>,

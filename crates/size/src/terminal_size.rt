@@ -1,5 +1,5 @@
 // The size of a terminal.
-ghost use Rattle.std.specs.Prelude.{◌≡◌, ◌<◌, ◌⊎◌, Decides, MatchOption, nat_eq};
+ghost use Rattle.std.specs.Prelude.{◌≡◌, ◌<◌, ◌⊎◌, ◌==◌, ◌&&◌, Decides, MatchOption, nat_eq};
 ghost use Rattle.std.specs.Ordering.{on, eq_of_both};
 ghost use Rattle.std.specs.Cmp.Rules.{comparing};
 ghost use Rattle.std.proofs.Common.{rules, arith};
@@ -55,7 +55,10 @@ impl PartialEq for TerminalSize {
 
     ghost laws = { first_of (Prim.search (comparing, rules), Prim.grind (arith, Self.row.coded.inj)) };
 
-    fn eq(&self, other: &TerminalSize) -> bool {
+    fn eq(&self, other: &TerminalSize) -> bool
+        ensures value { result ≡ (self.now.width == other.now.width && self.now.height == other.now.height) }
+        ensures decides { Decides result ((self.now.width ≡ other.now.width) × (self.now.height ≡ other.now.height)) }
+    {
         self.width == other.width && self.height == other.height
     }
 }

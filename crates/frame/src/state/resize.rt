@@ -16,8 +16,8 @@ impl<C: WidthRule, R: RowHash> FrameState<C, R> {
     pub fn fits_columns(&self, columns: u16) -> bool
         ensures { result ≡ fits (rule_at columns C.WidthRule.cells R.RowHash.seed R.RowHash.step) (rewrapped (rule_at columns C.WidthRule.cells R.RowHash.seed R.RowHash.step) (sheet_of self.now)) }
     {
-        let end = self.draft.measure_rewrap::<C>(columns);
-        end.fits(self.draft.style.is_empty())
+        let counts = self.draft.measure_rewrap::<C>(columns);
+        counts.fits(self.draft.style.is_empty())
     }
 
     /// Wraps the frame anew if its terminal's size is another one. The spare frame is written over; it keeps what the
@@ -33,7 +33,8 @@ impl<C: WidthRule, R: RowHash> FrameState<C, R> {
             return Ok(());
         }
         let columns = new_size.width();
-        if !self.fits_columns(columns) {
+        let end = self.draft.measure_rewrap::<C>(columns);
+        if !end.fits(self.draft.style.is_empty()) {
             return Err(FrameError::TooLarge);
         }
         spare.draft.rewrite::<C>(columns, &self.draft);

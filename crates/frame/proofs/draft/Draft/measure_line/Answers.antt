@@ -12,8 +12,8 @@ write-end-requires g c =
     let short : length c.in-Some.text.now ≤ 16384 = omega (arith, ap length told.1, short-run d c.args.line c.loop-text.k) in
     run_room c.args.start.counts c.loop-text.end.counts c.loop-text.k c.loop-text.invariant.1 few c.in-Some.text.now short c.requires
 
-pub overflow-add-k : goal.overflow-add-k
-overflow-add-k g c = omega (arith, c.in-Some.ensures.0, few-runs c.args.self.now c.args.line)
+pub overflow_add-k : goal.overflow_add-k
+overflow_add-k g c = omega (arith, c.in-Some.ensures.0, few-runs c.args.self.now c.args.line)
 
 pub loop-text-preserved : goal.loop-text-preserved
 loop-text-preserved g c =
@@ -31,6 +31,6 @@ returns g c =
     let d = c.args.self.now in
     let few : c.loop-text.k ≤ 1024 = omega (arith, c.loop-text.invariant.2, few-runs d c.args.line) in
     record {
-      value = measure-end c.args.columns g.C.WidthRule.cells (runs_in c.args.line (frame_of d)) c.args.start c.loop-text.end c.loop-text.k c.loop-text.invariant.0 c.in-default.ensures;
+      value = measure-end c.args.columns g.C.WidthRule.cells (runs_in c.args.line (frame_of d)) c.args.start c.loop-text.end c.loop-text.k c.loop-text.invariant.0 c.in_default.ensures;
       spread = spread_line c.args.start.counts c.loop-text.end.counts c.loop-text.k c.loop-text.invariant.1 few;
     }

@@ -8,18 +8,18 @@ loop-i-init g c =
     let k = rule_at c.args.columns g.C.WidthRule.cells g.R.RowHash.seed g.R.RowHash.step in
     (c.fresh-end.ensures k, record { rows = omega arith; runs = omega arith; bytes = omega arith })
 
-pub measure-line-requires : goal.measure-line-requires
-measure-line-requires g c =
+pub measure_line-requires : goal.measure_line-requires
+measure_line-requires g c =
     let k = rule_at c.args.columns g.C.WidthRule.cells g.R.RowHash.seed g.R.RowHash.step in
     row_room k c.fresh-end.result c.loop-i.end c.loop-i.i (c.fresh-end.ensures k) c.loop-i.invariant.1 (omega arith)
 
-pub close-row-end-requires : goal.close-row-end-requires
-close-row-end-requires g c =
+pub close_row-end-requires : goal.close_row-end-requires
+close_row-end-requires g c =
     let k = rule_at c.args.columns g.C.WidthRule.cells g.R.RowHash.seed g.R.RowHash.step in
-    line-room k c.fresh-end.result c.loop-i.end c.loop-i.i (c.fresh-end.ensures k) c.loop-i.invariant.1 c.measure-line.result c.measure-line.ensures.spread (omega arith)
+    line-room k c.fresh-end.result c.loop-i.end c.loop-i.i (c.fresh-end.ensures k) c.loop-i.invariant.1 c.measure_line.result c.measure_line.ensures.spread (omega arith)
 
-pub measure-line-requires-2 : goal.measure-line-requires-2
-measure-line-requires-2 g c =
+pub measure_line-requires-2 : goal.measure_line-requires-2
+measure_line-requires-2 g c =
     let k = rule_at c.args.columns g.C.WidthRule.cells g.R.RowHash.seed g.R.RowHash.step in
     row_room k c.fresh-end.result c.loop-i.end c.loop-i.i (c.fresh-end.ensures k) c.loop-i.invariant.1 (omega arith)
 
@@ -28,8 +28,8 @@ loop-i-preserved g c =
     let k = rule_at c.args.columns g.C.WidthRule.cells g.R.RowHash.seed g.R.RowHash.step in
     let f = frame_of c.args.self.now in
     let l : c.loop-i.i < length f.rows = omega arith in (
-      rows_more c.args.columns g.C.WidthRule.cells g.R.RowHash.seed g.R.RowHash.step f c.loop-i.i c.loop-i.end c.loop-i.invariant.0 l c.measure-line.result _ c.measure-line.ensures.value c.close-row-end.ensures.value,
-      rows-spread k c.fresh-end.result c.loop-i.end c.loop-i.i (c.fresh-end.ensures k) c.loop-i.invariant.1 c.measure-line.result c.measure-line.ensures.spread c.close-row-end.result c.close-row-end.ensures.spread,
+      rows_more c.args.columns g.C.WidthRule.cells g.R.RowHash.seed g.R.RowHash.step f c.loop-i.i c.loop-i.end c.loop-i.invariant.0 l c.measure_line.result _ c.measure_line.ensures.value c.close_row-end.ensures.value,
+      rows-spread k c.fresh-end.result c.loop-i.end c.loop-i.i (c.fresh-end.ensures k) c.loop-i.invariant.1 c.measure_line.result c.measure_line.ensures.spread c.close_row-end.result c.close_row-end.ensures.spread,
     )
 
 pub returns : goal.returns
@@ -38,6 +38,6 @@ returns g c =
     let f = frame_of c.args.self.now in
     let l : length f.rows ≤ c.loop-i.i = omega arith in
     record {
-      value = rows_end c.args.columns g.C.WidthRule.cells g.R.RowHash.seed g.R.RowHash.step f c.loop-i.i c.loop-i.end c.loop-i.invariant.0 l c.measure-line-2.result c.measure-line-2.ensures.value;
-      room = line-room k c.fresh-end.result c.loop-i.end c.loop-i.i (c.fresh-end.ensures k) c.loop-i.invariant.1 c.measure-line-2.result c.measure-line-2.ensures.spread (omega arith);
+      value = rows_end c.args.columns g.C.WidthRule.cells g.R.RowHash.seed g.R.RowHash.step f c.loop-i.i c.loop-i.end c.loop-i.invariant.0 l c.measure_line-2.result c.measure_line-2.ensures.value;
+      room = line-room k c.fresh-end.result c.loop-i.end c.loop-i.i (c.fresh-end.ensures k) c.loop-i.invariant.1 c.measure_line-2.result c.measure_line-2.ensures.spread (omega arith);
     }

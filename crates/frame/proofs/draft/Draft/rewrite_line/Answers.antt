@@ -11,8 +11,8 @@ write-requires g c =
     let told = c.in-Some.ensures in
     run-within k (runs_in c.args.line (frame_of c.args.from.now)) c.loop-text.k (frame_of c.loop-text.self) _ c.loop-text.invariant told.0 _ _ told.1 told.2 c.requires
 
-pub overflow-add-k : goal.overflow-add-k
-overflow-add-k g c = omega (arith, c.in-Some.ensures.0, few-runs c.args.from.now c.args.line)
+pub overflow_add-k : goal.overflow_add-k
+overflow_add-k g c = omega (arith, c.in-Some.ensures.0, few-runs c.args.from.now c.args.line)
 
 pub loop-text-preserved : goal.loop-text-preserved
 loop-text-preserved g c =
@@ -23,4 +23,4 @@ loop-text-preserved g c =
 pub returns : goal.returns
 returns g c =
     let k = rule_at c.args.columns g.C.WidthRule.cells g.R.RowHash.seed g.R.RowHash.step in
-    runs-end k (runs_in c.args.line (frame_of c.args.from.now)) c.loop-text.k (frame_of c.loop-text.self) _ c.loop-text.invariant c.in-default.ensures
+    runs-end k (runs_in c.args.line (frame_of c.args.from.now)) c.loop-text.k (frame_of c.loop-text.self) _ c.loop-text.invariant c.in_default.ensures

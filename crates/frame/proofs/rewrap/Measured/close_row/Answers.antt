@@ -10,6 +10,6 @@ pub returns : goal.returns
 returns c =
     let s = c.args.self in
     record {
-      value = λ k f t. record { counts = c.close-row.ensures ∙ (λ i. tally_closed (t.bare i) true (t.counts i)) ∙ sym (tally-closed k true f); bare = t.bare };
-      spread = subst (Spread 1 (counts_of s.counts)) (sym c.close-row.ensures) (spread-closed s.bare true (counts_of s.counts));
+      value = λ k f t. record { counts = c.close_row.ensures ∙ (λ i. tally_closed (t.bare i) true (t.counts i)) ∙ sym (tally-closed k true f); bare = t.bare };
+      spread = subst (Spread 1 (counts_of s.counts)) (sym c.close_row.ensures) (spread-closed s.bare true (counts_of s.counts));
     }

@@ -12,10 +12,10 @@ returns-then-end g c =
     let has = c.if-end.true in
     record {
       value = λ seed step f t. record {
-        counts = run-counts c.args.columns cells seed step c.args.style text f _ _ _ c.is-empty-bare.ensures.value t.counts c.measure-end.ensures.value _ c.end-run.ensures;
-        bare = run-bare c.args.columns cells seed step c.args.style text f _ _ _ c.is-empty-bare.ensures.value t.counts c.measure-end.ensures.value _ (has ∙ sym (or_left _ _ has));
+        counts = run-counts c.args.columns cells seed step c.args.style text f _ _ _ c.is_empty-bare.ensures.value t.counts c.measure-end.ensures.value _ c.end_run.ensures;
+        bare = run-bare c.args.columns cells seed step c.args.style text f _ _ _ c.is_empty-bare.ensures.value t.counts c.measure-end.ensures.value _ (has ∙ sym (or_left _ _ has));
       };
-      spread = spread-run (counting c.args.columns cells) _ _ _ _ text (search rules) c.measure-end.ensures.value c.end-run.ensures;
+      spread = spread-run (counting c.args.columns cells) _ _ _ _ text (search rules) c.measure-end.ensures.value c.end_run.ensures;
     }
 
 pub returns-else-end : goal.returns-else-end
@@ -26,8 +26,8 @@ returns-else-end g c =
     let none = c.if-end.false in
     record {
       value = λ seed step f t. record {
-        counts = run-counts c.args.columns cells seed step c.args.style text f _ _ _ c.is-empty-bare.ensures.value t.counts c.measure-end.ensures.value _ c.end-run.ensures;
-        bare = run-bare c.args.columns cells seed step c.args.style text f _ _ _ c.is-empty-bare.ensures.value t.counts c.measure-end.ensures.value _ (sym (ap (λ b. b || c.is-empty-bare.result) none));
+        counts = run-counts c.args.columns cells seed step c.args.style text f _ _ _ c.is_empty-bare.ensures.value t.counts c.measure-end.ensures.value _ c.end_run.ensures;
+        bare = run-bare c.args.columns cells seed step c.args.style text f _ _ _ c.is_empty-bare.ensures.value t.counts c.measure-end.ensures.value _ (sym (ap (λ b. b || c.is_empty-bare.result) none));
       };
-      spread = spread-run (counting c.args.columns cells) _ _ _ _ text (search rules) c.measure-end.ensures.value c.end-run.ensures;
+      spread = spread-run (counting c.args.columns cells) _ _ _ _ text (search rules) c.measure-end.ensures.value c.end_run.ensures;
     }

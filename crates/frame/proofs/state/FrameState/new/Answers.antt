@@ -5,9 +5,9 @@ use Rattle.frame.specs.Drafts.{frame_at, hashing}
 use Rattle.frame.proofs.Fitting.{fits_fresh}
 use Rattle.frame.proofs.state.FrameState.new.Goals as goal
 
-pub invariant-of-result : goal.invariant-of-result
-invariant-of-result g c =
+pub invariant_of-result : goal.invariant_of-result
+invariant_of-result g c =
     let k = hashing 0 (λ h b. 0) in
-    let pile = c.in-ok-store.ensures in
+    let pile = c.in_ok-store.ensures in
     let style = c.empty.ensures in
-    ((λ i. fits k (frame_at (pile i) (style i) 0 c.begin.result)) ∙ fits_fresh k, tt)
+    record { fitting = (λ i. fits k (frame_at (pile i) (style i) 0 c.begin.result)) ∙ fits_fresh k }
