@@ -1,13 +1,13 @@
 -- The pieces that the scan gives obey the law.
-use Rattle.std.proofs.Common.{◌≡◌, ℕ, ◌<◌, Bool, true, false, cond, eqb, ◌⊎◌, List, [], ◌∷◌, ◌++◌, length, take, drop, IsUtf8, sym, refl, ap, ◌∙◌, subst, inl, inr, append_assoc, append-nil, arith, length-append, take-append-drop}
+use Rattle.std.proofs.Common.{◌≡◌, ℕ, ◌<◌, Bool, true, false, cond, eqb, List, [], ◌∷◌, ◌++◌, length, take, drop, IsUtf8, sym, refl, ap, ◌∙◌, subst, inl, inr, append_assoc, append-nil, arith, length-append, take-append-drop}
 use lib.Seq.{take-append-le}
 use lib.Utf8.{encode, encodes}
 use Rattle.std.specs.Str.{chars}
 use Rattle.std.proofs.lemmas.Str.{encodes-chars}
 use Rattle.std.proofs.lemmas.Bool.{eqb-true, eqb-false}
 use Rattle.ansi.specs.Machine.{State, InEscape, Move, stop, to, move, run}
-use Rattle.ansi.specs.Pieces.{Part, sequence, letter, bytes, joined, ground, inside, onward, closed, scan, pieces}
-use Rattle.ansi.specs.Law.{Shortest, Lawful}
+use Rattle.ansi.specs.Pieces.{sequence, letter, ground, inside, onward, closed, scan, pieces}
+use Rattle.ansi.specs.Law.{Lawful}
 
 -- what follows a way of the machine
 abbrev then : Move → List ℕ → Move

@@ -3,7 +3,6 @@ use Rattle.std.proofs.Common.{◌≡◌, ℕ, List, [], ◌∷◌, ◌++◌, len
 use Rattle.std.specs.Iterator.{AlwaysYields}
 use Rattle.ansi.specs.declared.pieces.AnsiAwareChars.{AnsiAwareChars}
 use Rattle.ansi.specs.declared.pieces.AnsiStrippedChars.{AnsiStrippedChars}
-use Rattle.ansi.specs.declared.pieces.Piece.{Piece}
 use Rattle.ansi.specs.Law.{Lawful}
 use Rattle.ansi.specs.Pieces.{Part, sequence, letter, bytes, joined, pieces, letters}
 use Rattle.ansi.specs.Reading.{part, unread, remaining, stripped, AwareSteps, StrippedSteps, Reads, Strips}

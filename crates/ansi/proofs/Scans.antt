@@ -1,15 +1,15 @@
 -- The first piece of a text, by the scan.
-use Rattle.std.proofs.Common.{◌≡◌, ℕ, ◌+◌, true, false, cond, eqb, List, [], ◌∷◌, ◌++◌, length, take, drop, IsUtf8, sym, refl, ap, ◌∙◌, subst, append_assoc, append-nil, add-zero, suc-add, zero-add}
+use Rattle.std.proofs.Common.{◌≡◌, ℕ, ◌+◌, true, false, cond, eqb, List, [], ◌∷◌, ◌++◌, length, take, drop, IsUtf8, sym, refl, ap, ◌∙◌, append_assoc, append-nil, add-zero, suc-add, zero-add}
 use lib.Seq.{drop-append_seam}
 use lib.Utf8.{scalar, scalars, encode, encodes}
 use Rattle.std.specs.Char.{len_utf8}
 use Rattle.std.specs.Str.{chars}
 use Rattle.std.proofs.lemmas.List.{drop-drop}
-use Rattle.std.proofs.lemmas.Str.{chars-encodes, encodes-chars, scalars-chars, length-encode, encode_ascii}
+use Rattle.std.proofs.lemmas.Str.{chars-encodes, encodes-chars, scalars-chars, length-encode}
 use Rattle.std.proofs.str.Laws.{both}
 use Rattle.ansi.specs.Machine.{State, InEscape, stop, to, move}
 use Rattle.ansi.specs.Places.{ends}
-use Rattle.ansi.specs.Pieces.{Part, sequence, letter, bytes, ground, inside, onward, closed, after, done, scan, pieces}
+use Rattle.ansi.specs.Pieces.{Part, sequence, letter, ground, inside, onward, closed, scan, pieces}
 
 -- past a character, and up to it
 past : (c n : ℕ) (bs : List ℕ) → drop (len_utf8 c + n) (encode c ++ bs) ≡ drop n bs

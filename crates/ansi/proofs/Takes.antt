@@ -1,5 +1,5 @@
 -- One call of `next` on the pieces of a text.
-use Rattle.std.proofs.Common.{◌≡◌, ℕ, ◌+◌, false, eqb, List, [], ◌∷◌, ◌++◌, length, take, drop, IsUtf8, sym, ap, ◌∙◌, take-append-drop}
+use Rattle.std.proofs.Common.{◌≡◌, ℕ, ◌+◌, false, eqb, ◌∷◌, ◌++◌, take, drop, IsUtf8, sym, ap, ◌∙◌, take-append-drop}
 use Rattle.std.specs.Char.{len_utf8}
 use Rattle.std.specs.Str.{chars}
 use Rattle.ansi.specs.declared.pieces.AnsiAwareChars.{AnsiAwareChars}

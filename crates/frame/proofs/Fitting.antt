@@ -1,16 +1,16 @@
 -- The counts tell whether a frame fits.
-use Rattle.std.proofs.Common.{◌≡◌, ℕ, Bool, true, false, List, [], ◌∷◌, sym, refl, ap, ◌∙◌, subst}
+use Rattle.std.proofs.Common.{◌≡◌, ℕ, Bool, true, List, [], ◌∷◌, sym, refl, ◌∙◌}
 use Rattle.style.specs.declared.style.StyleSheet.{StyleSheet}
 use Rattle.style.specs.Styles.{is_plain}
 use Rattle.ansi.specs.Pieces.{Part, pieces}
 use Rattle.layout.specs.Frames.{Frame, Rule}
-use Rattle.layout.specs.Limits.{bytes_of_rows, bytes_of_runs, runs_of_rows, fits}
+use Rattle.layout.specs.Limits.{bytes_of_rows, runs_of_rows, fits}
 use Rattle.layout.specs.Tally.{Tally, Within, tally_of, tally_put, tally_all, tally_fits}
 use Rattle.layout.specs.Writing.{fresh, written}
 use Rattle.layout.proofs.Rooms.{fits-within}
 use Rattle.layout.proofs.Tallies.{tally-written}
 use Rattle.frame.specs.Counts.{counting}
-use Rattle.frame.specs.Drafts.{rule_at, hashing}
+use Rattle.frame.specs.Drafts.{rule_at}
 
 pub fits_fresh : (k : Rule) → fits k (fresh k []) ≡ true
 unfolding bytes_of_rows runs_of_rows

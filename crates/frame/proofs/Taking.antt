@@ -1,5 +1,5 @@
 -- Loops over the pieces of a text.
-use Rattle.std.proofs.Common.{◌≡◌, ℕ, ◌+◌, Bool, List, [], ◌∷◌, length, sym, refl, ap, ◌∙◌, length-append}
+use Rattle.std.proofs.Common.{◌≡◌, ◌+◌, Bool, List, ◌∷◌, length, sym, refl, ap, ◌∙◌, length-append}
 use Rattle.ansi.specs.declared.pieces.AnsiAwareChars.{AnsiAwareChars}
 use Rattle.ansi.specs.declared.pieces.Piece.{Piece}
 use Rattle.ansi.specs.Pieces.{Part, bytes}

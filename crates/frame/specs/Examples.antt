@@ -7,7 +7,7 @@ use Rattle.ansi.specs.declared.refusal.Refusal.TheVariants.{NoColour}
 use Rattle.ansi.specs.Pieces.{sequence, letter, pieces}
 use Rattle.pen.specs.Checks.{first_offence}
 use Rattle.width.specs.Widths.{table_cells, per_point_cells}
-use Rattle.layout.specs.Frames.{Row, Frame, Rule}
+use Rattle.layout.specs.Frames.{Frame, Rule}
 use Rattle.layout.specs.Writing.{fresh, written, finished}
 use Rattle.frame.specs.Drafts.{rule_at}
 use Rattle.frame.specs.Marks.{mark_at}

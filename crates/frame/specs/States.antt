@@ -1,5 +1,5 @@
 -- A frame state by its meaning, and the answers of its calls.
-use Rattle.std.specs.Prelude.{◌≡◌, ℕ, ◌<◌, ◌≤◌, max, Bool, true, false, ◌⊎◌, List, length, ℤ, pos, Some, IsUtf8, fold}
+use Rattle.std.specs.Prelude.{◌≡◌, ℕ, ◌<◌, ◌≤◌, max, true, false, ◌⊎◌, List, length, ℤ, pos, Some, IsUtf8, fold}
 use Rattle.ansi.specs.Pieces.{pieces}
 use Rattle.ansi.specs.Refusals.{NotText}
 use Rattle.pen.specs.Checks.{first_offence, Accepted}

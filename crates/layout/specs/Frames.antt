@@ -1,5 +1,5 @@
 -- What a frame is: rows of runs, and a row that is open.
-use Rattle.std.specs.Prelude.{ℕ, List, [], ◌∷◌}
+use Rattle.std.specs.Prelude.{ℕ, List}
 use Rattle.style.specs.declared.style.StyleSheet.{StyleSheet}
 
 -- bytes under one style

@@ -1,5 +1,5 @@
 -- How much a frame may hold.
-use Rattle.std.specs.Prelude.{ℕ, ◌+◌, Bool, ◌&&◌, List, [], ◌∷◌, ◌++◌, length, nat_le}
+use Rattle.std.specs.Prelude.{ℕ, ◌+◌, Bool, ◌&&◌, List, [], ◌∷◌, length, nat_le}
 use Rattle.layout.specs.Frames.{Run, Row, Frame, Rule}
 use Rattle.layout.specs.Writing.{finished}
 

@@ -1,5 +1,5 @@
 -- Which texts are taken: UTF-8 without controls but newlines, and without escape sequences but colour sequences.
-use Rattle.std.specs.Prelude.{◌≡◌, ℕ, ◌+◌, Bool, true, false, cond, not, ◌&&◌, List, [], ◌∷◌, length, Some, None, IsUtf8, Option, ◌==◌}
+use Rattle.std.specs.Prelude.{◌≡◌, ℕ, ◌+◌, Bool, cond, not, ◌&&◌, List, [], ◌∷◌, length, Some, None, IsUtf8, Option, ◌==◌}
 use Rattle.ansi.specs.declared.refusal.Refusal.{Refusal}
 use Rattle.ansi.specs.declared.refusal.Refusal.TheVariants.{Control, NoColour}
 use Rattle.ansi.specs.Pieces.{Part, sequence, letter, bytes, pieces}

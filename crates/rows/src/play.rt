@@ -103,7 +103,8 @@ impl Session {
             Ok(position) => {
                 let row = position.row;
                 let col = position.col;
-                writeln!(self.out, "mark 0 {row} {col}")
+                writeln!(self.out, "mark 0 {row} {col}")?;
+                Ok(())
             }
             Err(e) => self.refuse("mark", e),
         }

@@ -1,5 +1,5 @@
 -- How much a pile holds after each step.
-use Rattle.std.proofs.Common.{◌≡◌, ℕ, ◌+◌, List, [], ◌∷◌, ◌++◌, length, refl, arith}
+use Rattle.std.proofs.Common.{◌≡◌, ℕ, ◌+◌, List, [], ◌∷◌, ◌++◌, length, arith}
 use Rattle.std.proofs.lemmas.List.{length_push, length-append}
 use Rattle.style.specs.declared.style.StyleSheet.{StyleSheet}
 use Rattle.layout.specs.Frames.{Run, Row}

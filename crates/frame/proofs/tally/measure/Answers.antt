@@ -1,4 +1,4 @@
-use Rattle.std.proofs.Common.{◌≡◌, sym, ◌∙◌, arith, rules}
+use Rattle.std.proofs.Common.{sym, ◌∙◌, rules}
 use Rattle.frame.proofs.Taking.{size-taken, tally-step, tally-end}
 use Rattle.frame.proofs.tally.measure.Goals as goal
 

@@ -1,4 +1,4 @@
-use Rattle.std.proofs.Common.{◌≡◌, ◌+◌, false, List, [], sym, ap, subst, arith, rules}
+use Rattle.std.proofs.Common.{◌≡◌, false, List, [], ap, subst, arith, rules}
 use Rattle.std.specs.List.{AllByRecursion}
 use Rattle.ansi.specs.Pieces.{Part, pieces}
 use Rattle.ansi.specs.Reading.{remaining}
@@ -9,7 +9,7 @@ use Rattle.terminal.proofs.run.line_cells.Goals as goal
 pub returns : goal.returns
 returns g c =
     let none : [] ≡ remaining c.loop-piece.piece-iterator = search rules in
-    let start : remaining c.into-iter-piece-iterator.result ≡ pieces c.args.text.now = search rules in
+    let start : remaining c.into_iter-piece-iterator.result ≡ pieces c.args.text.now = search rules in
     let P : List Part → Type 0 = λ ps. AllByRecursion (λ p. is_line p ≡ false) ps in
     let rest = ap (span g.C.WidthRule.cells) none in
     let all = ap (span g.C.WidthRule.cells) start in

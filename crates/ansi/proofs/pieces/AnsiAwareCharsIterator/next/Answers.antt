@@ -1,4 +1,4 @@
-use Rattle.std.proofs.Common.{◌≡◌, take, drop, IsUtf8, refl, ap, ◌∙◌, rules}
+use Rattle.std.proofs.Common.{take, drop, IsUtf8, refl, ap, ◌∙◌, rules}
 use Rattle.ansi.specs.Pieces.{sequence}
 use Rattle.ansi.specs.Reading.{unread}
 use Rattle.ansi.proofs.Takes.{done, takes-escape, takes-letter}

@@ -1,4 +1,4 @@
-use Rattle.std.proofs.Common.{◌≡◌, ◌-◌, true, false, cond, ltb, sym, ap, ◌∙◌, subst, rules}
+use Rattle.std.proofs.Common.{◌≡◌, ◌-◌, false, cond, ltb, sym, ap, ◌∙◌, subst, rules}
 use lib.Utf8.{encode}
 use Rattle.layout.specs.Tally.{Within, tally_of}
 use Rattle.layout.specs.Writing.{closed, carried, folding}

@@ -1,4 +1,4 @@
-use Rattle.std.proofs.Common.{◌≡◌, sym, ap, ◌∙◌, add-zero, rules}
+use Rattle.std.proofs.Common.{sym, ap, ◌∙◌, add-zero, rules}
 use Rattle.frame.specs.Drafts.{frame_of, carried_to, hashing}
 use Rattle.frame.proofs.draft.Draft.put_escape.Goals as goal
 

@@ -1,4 +1,4 @@
-use Rattle.std.proofs.Common.{◌≡◌, max, sym, ap, ◌∙◌, arith}
+use Rattle.std.proofs.Common.{max, sym, ap, ◌∙◌, arith}
 use Rattle.std.proofs.lemmas.List.{take_all}
 use Rattle.store.specs.Piles.{no_row}
 use Rattle.frame.specs.States.{sheet_of, widest}

@@ -1,5 +1,4 @@
-use Rattle.std.proofs.Common.{◌≡◌, ap, ◌∙◌}
-use Rattle.store.specs.Stores.{pile_of}
+use Rattle.std.proofs.Common.{◌∙◌}
 use Rattle.layout.specs.Limits.{fits}
 use Rattle.frame.specs.Drafts.{frame_at, hashing}
 use Rattle.frame.proofs.Fitting.{fits_fresh}

@@ -1,4 +1,4 @@
-use Rattle.std.proofs.Common.{◌≡◌, ap, ◌∙◌}
+use Rattle.std.proofs.Common.{ap, ◌∙◌}
 use Rattle.layout.specs.Limits.{fits}
 use Rattle.frame.specs.Drafts.{hashing}
 use Rattle.frame.proofs.Fitting.{fits_fresh}

@@ -1,8 +1,7 @@
-use Rattle.std.proofs.Common.{◌≡◌, true, false, sym, refl, ap, ◌∙◌, subst, inl, inr, rules}
+use Rattle.std.proofs.Common.{sym, refl, ap, ◌∙◌, inr}
 use Rattle.layout.specs.Limits.{fits}
 use Rattle.layout.specs.Writing.{written}
-use Rattle.pen.specs.Checks.{Accepted}
-use Rattle.frame.specs.Drafts.{frame_of, rule_at, hashing}
+use Rattle.frame.specs.Drafts.{rule_at, hashing}
 use Rattle.frame.specs.States.{sheet_of}
 use Rattle.frame.proofs.Fitting.{measured, measured-within}
 use Rattle.frame.proofs.state.FrameState.write.Goals as goal
