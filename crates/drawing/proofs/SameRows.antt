@@ -6,7 +6,7 @@ use Rattle.std.proofs.lemmas.Bool.Decides.{Decides-and, Decides-eqb, Decides-lik
 use Rattle.store.proofs.Alike.{never}
 use Rattle.style.specs.declared.style.StyleSheet.{StyleSheet}
 use Rattle.style.specs.Bytes.{style_bytes}
-use Rattle.style.proofs.Distinct.{distinct}
+use Rattle.style.specs.Distinct.{distinct}
 use Rattle.layout.specs.Frames.{Run}
 use Rattle.drawing.specs.SameRows.{same_run, same_runs, same_row, Compares}
 

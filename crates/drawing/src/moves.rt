@@ -10,7 +10,7 @@ use terminal::{CallKind, Terminal};
 use width::WidthRule;
 
 fn move_row<T: Terminal>(terminal: &mut T, from: u16, to: u16) -> Result<(), DrawError>
-    ensures { Tried Width-as-WidthRule.cells (steps up down from to) (T.Terminal.page terminal.old) result (T.Terminal.page terminal.new) }
+    ensures { Tried T.Width.cells (steps up down from to) (T.Terminal.page terminal.old) result (T.Terminal.page terminal.new) }
 {
     if to < from {
         if let Err(fault) = terminal.cursor_up(from - to) {
@@ -25,7 +25,7 @@ fn move_row<T: Terminal>(terminal: &mut T, from: u16, to: u16) -> Result<(), Dra
 }
 
 fn move_column<T: Terminal>(terminal: &mut T, from: u16, to: u16) -> Result<(), DrawError>
-    ensures { Tried Width-as-WidthRule.cells (steps left right from to) (T.Terminal.page terminal.old) result (T.Terminal.page terminal.new) }
+    ensures { Tried T.Width.cells (steps left right from to) (T.Terminal.page terminal.old) result (T.Terminal.page terminal.new) }
 {
     if to < from {
         if let Err(fault) = terminal.cursor_left(from - to) {
@@ -46,7 +46,7 @@ pub fn move_cursor<T: Terminal>(
     from: Position,
     to: Position,
 ) -> Result<(), DrawError>
-    ensures calls { Tried Width-as-WidthRule.cells (going from to) (T.Terminal.page terminal.old) result (T.Terminal.page terminal.new) }
+    ensures calls { Tried T.Width.cells (going from to) (T.Terminal.page terminal.old) result (T.Terminal.page terminal.new) }
     ensures moved { OnOk result ((T.Terminal.page terminal.old).cursor ≡ from → from.col < (T.Terminal.page terminal.old).width → to.col < (T.Terminal.page terminal.old).width → (T.Terminal.page terminal.new).cursor ≡ to) }
 {
     move_row(terminal, from.row, to.row)?;

@@ -32,7 +32,7 @@ fn write_row<T: Terminal, R: RowHash>(
 
 // Goes to the next line's start behind a row, and stays on the row's line where no rows are left.
 fn end_row<T: Terminal>(terminal: &mut T, i: usize, rows_left: usize) -> Result<(), DrawError>
-    ensures { Tried Width-as-WidthRule.cells (row_end i rows_left) (T.Terminal.page terminal.old) result (T.Terminal.page terminal.new) }
+    ensures { Tried T.Width.cells (row_end i rows_left) (T.Terminal.page terminal.old) result (T.Terminal.page terminal.new) }
 {
     if let Err(fault) = terminal.carriage_return() {
         return Err(DrawError::new(fault, CallKind::CarriageReturn, Some(i)));

@@ -8,20 +8,20 @@ use Rattle.drawing.proofs.painting.write_row.Goals as goal
 pub returns-in-Err : goal.returns-in-Err
 returns-in-Err g c =
     let told = c.in-Some.ensures in
-    run-fault g.Width.WidthRule.cells c.args.i (get_or (sheet_of c.args.frame.now).rows c.args.i no_row).runs c.loop-text.k c.loop-text.invariant
-    told.0 c.as-bytes.result.now c.in-Some.text.now c.in-Some.style c.as-bytes.ensures.value told.1 told.2
-    (g.T.Terminal.page c.write-styled.new.self) c.in-Err.fault c.new.result c.in-Err.ensures c.new.ensures
+    run-fault g.T.Width.WidthRule.cells c.args.i (get_or (sheet_of c.args.frame.now).rows c.args.i no_row).runs c.loop-text.k c.loop-text.invariant
+    told.0 c.as_bytes.result.now c.in-Some.text.now c.in-Some.style c.as_bytes.ensures.value told.1 told.2
+    (g.T.Terminal.page c.write_styled.new.self) c.in-Err.fault c.new.result c.in-Err.ensures c.new.ensures
 
-pub overflow-add-k : goal.overflow-add-k
-overflow-add-k g c = omega (arith, c.in-Some.ensures.0, few-runs c.args.frame.now c.args.i)
+pub overflow_add-k : goal.overflow_add-k
+overflow_add-k g c = omega (arith, c.in-Some.ensures.0, few-runs c.args.frame.now c.args.i)
 
 pub loop-text-preserved : goal.loop-text-preserved
 loop-text-preserved g c =
     let told = c.in-Some.ensures in
-    run-next g.Width.WidthRule.cells c.args.i (get_or (sheet_of c.args.frame.now).rows c.args.i no_row).runs c.loop-text.k c.loop-text.invariant
-    told.0 c.as-bytes.result.now c.in-Some.text.now c.in-Some.style c.as-bytes.ensures.value told.1 told.2
-    {q = g.T.Terminal.page c.write-styled.new.self} c.in-default-write-styled.ensures
+    run-next g.T.Width.WidthRule.cells c.args.i (get_or (sheet_of c.args.frame.now).rows c.args.i no_row).runs c.loop-text.k c.loop-text.invariant
+    told.0 c.as_bytes.result.now c.in-Some.text.now c.in-Some.style c.as_bytes.ensures.value told.1 told.2
+    {q = g.T.Terminal.page c.write_styled.new.self} c.in_default-write_styled.ensures
 
 pub returns : goal.returns
 returns g c =
-    runs-end g.Width.WidthRule.cells c.args.i (get_or (sheet_of c.args.frame.now).rows c.args.i no_row).runs c.loop-text.k c.loop-text.invariant c.in-default.ensures
+    runs-end g.T.Width.WidthRule.cells c.args.i (get_or (sheet_of c.args.frame.now).rows c.args.i no_row).runs c.loop-text.k c.loop-text.invariant c.in_default.ensures

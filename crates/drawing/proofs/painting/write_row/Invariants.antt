@@ -8,7 +8,7 @@ use Rattle.drawing.proofs.painting.write_row.Given as goal
 -- what the runs that are left do from here, all the runs do from the start
 abbrev pub invariant-loop-text : goal.invariant-loop-text
 invariant-loop-text g l =
-    Leads g.Width.WidthRule.cells (sent l.i (get_or (sheet_of l.frame).rows l.i no_row).runs) (g.T.Terminal.page l.initial.terminal)
+    Leads g.T.Width.WidthRule.cells (sent l.i (get_or (sheet_of l.frame).rows l.i no_row).runs) (g.T.Terminal.page l.initial.terminal)
     (sent l.i (drop l.k (get_or (sheet_of l.frame).rows l.i no_row).runs)) (g.T.Terminal.page l.terminal)
 
 abbrev pub decreases-loop-text : goal.decreases-loop-text

@@ -10,7 +10,7 @@ returns-in-Ok g c =
     let h = c.in-Ok.ensures in
     let n = h.range in
     let same : c.args.offset ≡ pos n.0 = search rules in (
-      by-mark (rules g.Width.WidthRule.cells g.R.RowHash.seed g.R.RowHash.step) c.args.offset n.0 same n.1.1.0
+      by-mark (rules g.T.Width.WidthRule.cells g.R.RowHash.seed g.R.RowHash.step) c.args.offset n.0 same n.1.1.0
           (λ i. record { frame = h.frame i; width = (h.size i).width; height = (h.size i).height }) (h.mark ∙ ap Some n.1.1.1),
       h.mark,
     )
@@ -19,5 +19,5 @@ pub returns-in-Err : goal.returns-in-Err
 returns-in-Err g c =
     let h = c.in-Err.ensures in
     let bad : BadMark c.args.offset c.in-Err.e = search rules in
-    by-bad-mark (rules g.Width.WidthRule.cells g.R.RowHash.seed g.R.RowHash.step) c.args.offset c.in-Err.e bad
+    by-bad-mark (rules g.T.Width.WidthRule.cells g.R.RowHash.seed g.R.RowHash.step) c.args.offset c.in-Err.e bad
     (ap (λ (x : FrameState g.row.T-Width.Denot g.row.R.Denot). sheet_from x) h.1) (ap (λ (x : FrameState g.row.T-Width.Denot g.row.R.Denot). x.expected_cursor_position) h.1)

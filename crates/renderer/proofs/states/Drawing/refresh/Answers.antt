@@ -12,7 +12,7 @@ returns-in-err-refresh g c =
     let z = c.taken-size-size in
     let h = c.in-err-refresh.ensures in
     let p = err_from_is_err_and c.from-residual.result c.from-residual.ensures.1 in
-    rw (p.1, p.2) (refuses-refresh (rules g.Width.WidthRule.cells g.R.RowHash.seed g.R.RowHash.step) (g.T.Terminal.page s.terminal) (sheet_from s.frames.last) s.cursor_position
+    rw (p.1, p.2) (refuses-refresh (rules g.T.Width.WidthRule.cells g.R.RowHash.seed g.R.RowHash.step) (g.T.Terminal.page s.terminal) (sheet_from s.frames.last) s.cursor_position
     z.result.width z.result.height z.ensures.0 z.ensures.1 (sheet_from s.frames.current) s.frames.current.expected_cursor_position c.in-err-refresh.field-0.0 h.0
     (ap (λ (x : Frames g.row.T-Width.Denot g.row.R.Denot). sheet_from x.last) h.1) (ap (λ (x : Frames g.row.T-Width.Denot g.row.R.Denot). sheet_from x.current) h.1) (ap (λ (x : Frames g.row.T-Width.Denot g.row.R.Denot). x.current.expected_cursor_position) h.1))
 
@@ -21,5 +21,5 @@ returns g c =
     let s = c.args.self.now in
     let z = c.taken-size-size in
     let h = c.in-ok-refresh.ensures in
-    by-refresh (rules g.Width.WidthRule.cells g.R.RowHash.seed g.R.RowHash.step) (g.T.Terminal.page s.terminal) (sheet_from s.frames.last) s.cursor_position
+    by-refresh (rules g.T.Width.WidthRule.cells g.R.RowHash.seed g.R.RowHash.step) (g.T.Terminal.page s.terminal) (sheet_from s.frames.last) s.cursor_position
     z.result.width z.result.height z.ensures.0 z.ensures.1 (sheet_from s.frames.current) s.frames.current.expected_cursor_position h.wide h.fit h.last c.correct-self.ensures h.current.sheet h.current.mark
