@@ -1,20 +1,20 @@
 -- A call's bytes behind those of an AnsiOut.
-use Rattle.std.proofs.Common.{◌≡◌, ℕ, ◌+◌, ◌-◌, ◌<◌, ◌≤◌, true, List, [], ◌∷◌, ◌++◌, length, vec_items, vec_len, vec_capacity, sym, refl, ap, ◌∙◌, subst, arith, length-append}
+use Rattle.std.proofs.Common.{◌≡◌, ℕ, ◌+◌, ◌-◌, ◌<◌, ◌≤◌, true, List, [], ◌++◌, length, vec_items, vec_len, vec_capacity, sym, refl, ap, ◌∙◌, subst, arith, length-append}
 use Rattle.std.specs.Str.{chars}
 use Rattle.style.specs.declared.style.StyleSheet.{StyleSheet}
 use Rattle.width.specs.Widths.{table_cells}
 use Rattle.layout.specs.Writing.{run}
-use Rattle.terminal.specs.Pages.{Page, at, origin}
-use Rattle.terminal.specs.Calls.{Call, write, return, feed, clear_line, clear_until_new_line, hide, show, up, down, left, right, flush, meaning, effect, cost}
+use Rattle.terminal.specs.Pages.{at, origin}
+use Rattle.terminal.specs.Calls.{Call, write, return, feed, clear_line, clear_until_new_line, hide, show, up, down, left, right, flush, meaning, cost}
 use Rattle.terminal.specs.Faults.{Sound, Narrow, Above, Faulty}
 use Rattle.terminal.specs.declared.fault.Fault.{Fault}
 use Rattle.terminal.specs.declared.fault.Fault.TheVariants.{Full, Bottom, Text, Wide, Size}
 use Rattle.terminal.specs.Outcomes.{Does}
 use Rattle.terminal.specs.Runs.{Fitting, Misfit}
-use Rattle.stream.specs.Bytes.{styling, colouring, sent, Typed}
+use Rattle.stream.specs.Bytes.{sent, Typed}
 use Rattle.stream.specs.Cursors.{cursor_of}
 use Rattle.stream.specs.Grounded.{grounded}
-use Rattle.stream.specs.Reader.{viewed, view_of}
+use Rattle.stream.specs.Reader.{view_of}
 use Rattle.stream.proofs.Costs.{costs}
 use Rattle.stream.proofs.Cursors.{cursor-found, column-within}
 use Rattle.stream.proofs.Grounded.{grounded-more, grounded-does}

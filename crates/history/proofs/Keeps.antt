@@ -1,5 +1,5 @@
 -- What every history keeps, and the law from it.
-use Rattle.std.proofs.Common.{◌≡◌, ℕ, ◌%◌, ◌<◌, Bool, true, cond, ◌&&◌, eqb, ltb, ◌⊎◌, List, [], Some, None, Option, sym, refl, ap, ◌∙◌, subst, inl, inr, mod-lt, arith}
+use Rattle.std.proofs.Common.{◌≡◌, ℕ, ◌%◌, ◌<◌, Bool, true, ◌&&◌, eqb, ltb, ◌⊎◌, List, Some, None, Option, sym, refl, ap, ◌∙◌, subst, inl, inr, mod-lt, arith}
 use Rattle.std.proofs.lemmas.Bool.{cond-true, cond_both, lt-ltb, eq-eqb, and_from}
 use Rattle.size.specs.declared.position.Position.{Position}
 use Rattle.layout.specs.Frames.{Frame, Rule}
@@ -7,12 +7,11 @@ use Rattle.layout.specs.Inks.{Write}
 use Rattle.layout.specs.Writing.{written, finished, rewrapped}
 use Rattle.frame.specs.Marks.{mark_at, mark_column}
 use Rattle.terminal.specs.Pages.{Page}
-use Rattle.terminal.specs.Calls.{Order}
 use Rattle.terminal.specs.Outcomes.{Did, Stopped}
 use Rattle.terminal.proofs.Effects.{did-effects, did-left}
 use Rattle.drawing.specs.Painted.{painted, Shows, Blank}
 use Rattle.drawing.specs.Drawing.{drawing, behind, rests_at}
-use Rattle.drawing.specs.Law.{Inside, Redrawn, Redraws, Idles}
+use Rattle.drawing.specs.Law.{Inside, Redrawn}
 use Rattle.drawing.proofs.Redraw.{redraw}
 use Rattle.drawing.proofs.Idle.{idle}
 use Rattle.history.specs.Machines.{Rules, at, empty, Sheet, Machine, resting, drawn, lost, page_of}

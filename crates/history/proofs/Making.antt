@@ -1,5 +1,5 @@
 -- A step, from what is known of the state after it part by part.
-use Rattle.std.proofs.Common.{◌≡◌, ℕ, ◌≤◌, Bool, true, false, cond, ◌&&◌, List, ℤ, pos, Some, None, Option, sym, subst}
+use Rattle.std.proofs.Common.{◌≡◌, ℕ, ◌≤◌, true, false, cond, ◌&&◌, List, ℤ, pos, Some, None, Option, sym, subst}
 use Rattle.size.specs.declared.position.Position.{Position}
 use Rattle.style.specs.declared.style.StyleSheet.{StyleSheet}
 use Rattle.layout.specs.Frames.{Frame}

@@ -1,5 +1,5 @@
 -- Lists of calls with their answers, and what they tell.
-use Rattle.std.specs.Prelude.{ℕ, Bool, List, [], ◌∷◌, ℤ, pos, negsuc, Some, None, Option}
+use Rattle.std.specs.Prelude.{Bool, List, [], ◌∷◌, ℤ, pos, negsuc, Some, None, Option}
 use Rattle.size.specs.declared.position.Position.{Position}
 use Rattle.layout.specs.Frames.{Frame, Rule}
 use Rattle.layout.specs.Inks.{Write}
@@ -8,9 +8,8 @@ use Rattle.frame.specs.Marks.{mark_at}
 use Rattle.terminal.specs.Pages.{Page}
 use Rattle.terminal.specs.Calls.{Order}
 use Rattle.drawing.specs.Drawing.{drawing}
-use Rattle.history.specs.Machines.{Rules, at, empty, Machine, opened}
-use Rattle.history.specs.Steps.{Ask, start, refresh, write, mark, finish, Event, accepted, refused, Step}
-use Rattle.history.specs.declared.error.RenderError.{RenderError}
+use Rattle.history.specs.Machines.{Rules, empty, Machine, opened}
+use Rattle.history.specs.Steps.{start, refresh, write, mark, finish, Event, accepted, refused, Step}
 use Rattle.history.specs.declared.error.RenderError.TheVariants.{Frame as OfFrame, OneColumn, Draw}
 
 -- From an untouched renderer over the page p the events, the newest first, lead to a machine. Each is a step upon the

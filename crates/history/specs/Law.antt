@@ -1,5 +1,5 @@
 -- The law of a renderer's page, over whole histories at one size.
-use Rattle.std.specs.Prelude.{◌≡◌, ℕ, ◌+◌, ◌≤◌, Bool, true, List, ◌∷◌, Some}
+use Rattle.std.specs.Prelude.{◌≡◌, ◌+◌, ◌≤◌, Bool, true, List, ◌∷◌, Some}
 use Rattle.size.specs.declared.position.Position.{Position}
 use Rattle.terminal.specs.Pages.{Page}
 use Rattle.terminal.specs.Calls.{Order, effects, costs}

@@ -1,5 +1,5 @@
 -- What a renderer is, together with the page below it.
-use Rattle.std.specs.Prelude.{ℕ, List, [], Option}
+use Rattle.std.specs.Prelude.{ℕ, [], Option}
 use Rattle.size.specs.declared.position.Position.{Position}
 use Rattle.layout.specs.Frames.{Frame, Rule}
 use Rattle.layout.specs.Writing.{fresh}

@@ -1,5 +1,5 @@
 -- What the size of the page makes of a frame, of its mark and of the noted cursor.
-use Rattle.std.specs.Prelude.{ℕ, ◌+◌, ◌/◌, ◌%◌, min, Bool, true, cond, ◌&&◌, ◌||◌, None, Option, ◌==◌, nat_lt}
+use Rattle.std.specs.Prelude.{ℕ, ◌+◌, ◌/◌, ◌%◌, min, Bool, cond, ◌&&◌, ◌||◌, None, Option, ◌==◌, nat_lt}
 use Rattle.size.specs.declared.position.Position.{Position}
 use Rattle.layout.specs.Limits.{fits}
 use Rattle.layout.specs.Writing.{rewrapped}

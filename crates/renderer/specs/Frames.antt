@@ -1,10 +1,8 @@
 -- What the size of a terminal makes of a renderer's frames.
-use Rattle.std.specs.Prelude.{◌≡◌, ℕ, Bool, true, false, cond, ◌&&◌, None, Option, ◌≢◌}
-use Rattle.size.specs.declared.position.Position.{Position}
-use Rattle.frame.specs.declared.error.FrameError.{FrameError}
+use Rattle.std.specs.Prelude.{◌≡◌, ℕ, Bool, true, false, cond, ◌&&◌, None, ◌≢◌}
 use Rattle.frame.specs.declared.error.FrameError.TheVariants.{Text, TooLarge, BadOffset}
 use Rattle.frame.specs.declared.state.FrameState.{FrameState}
-use Rattle.history.specs.Machines.{Rules, Sheet, empty}
+use Rattle.history.specs.Machines.{Rules, empty}
 use Rattle.history.specs.Sizing.{sized, resized_to, fits_size}
 use Rattle.history.specs.declared.error.RenderError.{RenderError}
 use Rattle.history.specs.declared.error.RenderError.TheVariants.{Frame as OfFrame, OneColumn, Draw}

@@ -1,8 +1,8 @@
 -- Where the cells of a page stand in the list, and what a store there does to it.
-use Rattle.std.proofs.Common.{◌≡◌, ℕ, suc, ◌+◌, ◌-◌, ◌*◌, ◌/◌, ◌<◌, ◌≤◌, min, max, Bool, true, cond, eqb, leb, List, length, get_or, replicate, sym, refl, ap, ◌∙◌, subst, inl, inr, mul-le-mul_right, div-mul-le_self, arith}
+use Rattle.std.proofs.Common.{◌≡◌, ℕ, suc, ◌+◌, ◌-◌, ◌*◌, ◌/◌, ◌<◌, ◌≤◌, min, max, true, cond, eqb, leb, List, length, get_or, replicate, ap, ◌∙◌, inl, inr, mul-le-mul_right, div-mul-le_self, arith}
 use mathlib.Core.Path.{fun_ext}
 use native.Mathlib.Nat.{mul-div_cancel_left}
-use lib.ListN.{length-replicate, get_or-replicate}
+use lib.ListN.{get_or-replicate}
 use Rattle.std.proofs.lemmas.List.{get_or_past}
 use Rattle.std.proofs.lemmas.Bool.{cases_lt, cases_order}
 use Rattle.std.proofs.lemmas.Bool.Decides.{nat_tests}

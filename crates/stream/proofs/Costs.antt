@@ -1,10 +1,10 @@
 -- No call sends more bytes than it costs.
-use Rattle.std.proofs.Common.{ℕ, ◌+◌, ◌^◌, ◌<◌, ◌≤◌, Bool, true, false, eqb, List, [], ◌∷◌, ◌++◌, length, decimal, arith, length-append}
+use Rattle.std.proofs.Common.{ℕ, ◌^◌, ◌<◌, ◌≤◌, Bool, true, false, eqb, [], length, decimal, arith, length-append}
 use Rattle.std.proofs.lemmas.Fmt.{length-decimal-le}
 use Rattle.std.proofs.lemmas.Bool.{cond_both}
 use Rattle.pen.specs.Sequences.{csi}
 use Rattle.terminal.specs.Calls.{Call, write, return, feed, clear_line, clear_until_new_line, hide, show, up, down, left, right, flush, cost}
-use Rattle.stream.specs.Bytes.{coloured, flagged, moving, sent, Typed}
+use Rattle.stream.specs.Bytes.{flagged, moving, sent, Typed}
 use Rattle.stream.proofs.Styles.{colour-brief}
 
 flag-brief : (n : ℕ) (on : Bool) → n < 10 → length (flagged n on) ≤ 4

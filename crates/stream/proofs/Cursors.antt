@@ -1,9 +1,9 @@
 -- The cursor is found without the cells; its line, and its column, each for itself.
-use Rattle.std.proofs.Common.{◌≡◌, ℕ, zero, suc, ◌+◌, ◌≤◌, min, max, Bool, true, false, cond, eqb, List, [], ◌∷◌, Some, None, fold, Option, sym, refl, ap, ◌∙◌, arith, rules}
+use Rattle.std.proofs.Common.{◌≡◌, ℕ, ◌≤◌, Bool, true, false, cond, eqb, List, [], ◌∷◌, Some, None, fold, Option, sym, refl, ap, ◌∙◌, arith, rules}
 use Rattle.size.specs.declared.position.Position.{Position}
 use Rattle.ansi.specs.Pieces.{Part, sequence, letter, pieces}
 use Rattle.terminal.specs.Pages.{at, origin}
-use Rattle.terminal.specs.Calls.{Call, write, return, feed, clear_line, clear_until_new_line, hide, show, up, down, left, right, flush}
+use Rattle.terminal.specs.Calls.{Call, return}
 use Rattle.stream.specs.Controls.{asked}
 use Rattle.stream.specs.Reader.{View, Desk, heeded, step, start, view_of}
 use Rattle.stream.specs.Cursors.{moved, placed, cursor_of}

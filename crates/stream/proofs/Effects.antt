@@ -1,15 +1,14 @@
 -- The bytes of each call read as its effect.
-use Rattle.std.proofs.Common.{◌≡◌, ℕ, ◌+◌, ◌-◌, ◌^◌, ◌<◌, ◌≤◌, max, Bool, true, false, cond, eqb, List, [], ◌∷◌, ◌++◌, length, get_or, Some, None, decimal, fold, Option, sym, refl, ap, ◌∙◌, subst, inl, inr, append_assoc, append-nil, arith}
+use Rattle.std.proofs.Common.{◌≡◌, ℕ, ◌+◌, ◌^◌, ◌<◌, ◌≤◌, max, Bool, true, false, cond, eqb, List, [], ◌∷◌, ◌++◌, length, get_or, Some, None, decimal, fold, Option, sym, refl, ap, ◌∙◌, subst, inl, inr, append_assoc, append-nil, arith}
 use lib.Utf8.{encode}
 use Rattle.std.specs.List.{AllByRecursion}
-use Rattle.std.specs.Str.{bytes_eq}
-use Rattle.std.proofs.lemmas.Bool.{cases_eq, ne_eqb, cond-true, cond-false}
+use Rattle.std.proofs.lemmas.Bool.{cases_eq, ne_eqb, cond-false}
 use Rattle.style.specs.declared.color.Color.{Color}
 use Rattle.style.specs.declared.style.StyleSheet.{StyleSheet}
 use Rattle.style.specs.Styles.{plain}
 use Rattle.ansi.specs.Pieces.{Part, sequence, letter, pieces}
-use Rattle.pen.specs.Sequences.{csi, parameters, between, is_colour}
-use Rattle.pen.specs.Pens.{after, numbers, steered}
+use Rattle.pen.specs.Sequences.{csi, parameters, between}
+use Rattle.pen.specs.Pens.{after, numbers}
 use Rattle.pen.proofs.Sequences.{colours-told}
 use Rattle.layout.specs.Frames.{Run}
 use Rattle.layout.proofs.Seams.{accepted-fine}
@@ -17,10 +16,10 @@ use Rattle.terminal.specs.Pages.{Page, at, ink}
 use Rattle.terminal.specs.Calls.{Call, write, return, feed, clear_line, clear_until_new_line, hide, show, up, down, left, right, flush, meaning, effect}
 use Rattle.terminal.specs.Faults.{OneLine, Sound, Narrow}
 use Rattle.stream.specs.Bytes.{spelt, colouring, setting, coloured, flagged, styling, moving, sent, Octets, Typed}
-use Rattle.stream.specs.Controls.{is_control, final, first_number, ordered, lit, asked}
+use Rattle.stream.specs.Controls.{first_number, ordered, asked}
 use Rattle.stream.specs.Reader.{View, viewed, performed, Desk, desk, heeded, step, reading}
 use Rattle.stream.specs.Grounded.{penned}
-use Rattle.stream.proofs.Numbers.{reads-decimal, reads-spelt, parameters-decimal, parameters-spelt}
+use Rattle.stream.proofs.Numbers.{reads-decimal, parameters-decimal, parameters-spelt}
 use Rattle.stream.proofs.Sequences.{Gives, gives-csi, gives-letter, inner-parameters, between-csi, final-csi, control-csi, no-colour-csi}
 use Rattle.stream.proofs.Texts.{gives-text}
 use Rattle.stream.proofs.Styles.{wider, steered-colouring, sets-fore, sets-back, sets-some}

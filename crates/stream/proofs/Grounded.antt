@@ -1,8 +1,8 @@
 -- What the test of bytes says, and that the bytes of a call keep it.
-use Rattle.std.proofs.Common.{◌≡◌, ℕ, ◌^◌, ◌<◌, ◌≤◌, Bool, true, false, ◌&&◌, eqb, List, [], ◌∷◌, ◌++◌, Some, None, IsUtf8, decimal, Decides, fold, Option, sym, refl, ap, ◌∙◌, subst, append-nil, arith, rules}
+use Rattle.std.proofs.Common.{◌≡◌, ℕ, ◌^◌, ◌<◌, ◌≤◌, Bool, true, false, eqb, List, [], ◌∷◌, ◌++◌, Some, None, IsUtf8, decimal, fold, Option, sym, refl, ap, ◌∙◌, append-nil, arith, rules}
 use lib.Utf8.{scalar, scalars, encodes, encode}
 use Rattle.std.specs.List.{AllByRecursion}
-use Rattle.std.specs.Str.{chars, bytes_eq}
+use Rattle.std.specs.Str.{chars}
 use Rattle.std.proofs.lemmas.Slice.Eq.{bytes_eq-Decides}
 use Rattle.std.proofs.lemmas.Bool.{and_parts, and_from, cond-false, cond_both}
 use Rattle.std.proofs.lemmas.Str.{IsUtf8-append, IsUtf8-nil, IsUtf8-encode, IsUtf8-from_ascii, encodes-chars, scalars-chars}
@@ -12,11 +12,11 @@ use Rattle.style.specs.Styles.{plain, is_plain}
 use Rattle.ansi.specs.Pieces.{Part, sequence, letter, ground, after, pieces}
 use Rattle.pen.specs.Sequences.{csi, is_colour}
 use Rattle.layout.specs.Frames.{Run}
-use Rattle.terminal.specs.Pages.{Page, origin}
+use Rattle.terminal.specs.Pages.{Page}
 use Rattle.terminal.specs.Calls.{Call, write, return, feed, clear_line, clear_until_new_line, hide, show, up, down, left, right, flush, effect}
 use Rattle.terminal.specs.Faults.{OneLine, Sound, Narrow}
 use Rattle.stream.specs.Bytes.{spelt, colouring, setting, coloured, flagged, moving, sent, Octets, Typed}
-use Rattle.stream.specs.Reader.{View, viewed, Desk, desk, start, step, reading, view_of}
+use Rattle.stream.specs.Reader.{View, viewed, Desk, desk, start, step, view_of}
 use Rattle.stream.specs.Grounded.{is_text, at_ground, penned, grounded}
 use Rattle.stream.specs.Law.{Shows}
 use Rattle.stream.proofs.Numbers.{parameters-decimal, parameters-spelt}

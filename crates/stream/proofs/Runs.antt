@@ -1,5 +1,5 @@
 -- The characters of a run that fits, laid one by one, are the cells of the run.
-use Rattle.std.proofs.Common.{◌≡◌, ℕ, ◌+◌, ◌≤◌, min, Bool, true, false, cond, eqb, leb, List, [], ◌∷◌, ◌++◌, length, Some, None, fold, Option, sym, refl, ap, ◌∙◌, arith, length-append}
+use Rattle.std.proofs.Common.{◌≡◌, ℕ, ◌+◌, ◌≤◌, min, Bool, true, false, cond, eqb, leb, List, [], ◌∷◌, ◌++◌, length, None, fold, sym, refl, ap, ◌∙◌, arith, length-append}
 use mathlib.Core.Path.{fun_ext}
 use Rattle.std.specs.List.{AllByRecursion}
 use Rattle.std.specs.Str.{bytes_eq}
@@ -14,10 +14,10 @@ use Rattle.pen.proofs.Sequences.{colours-told}
 use Rattle.layout.specs.Inks.{is_line}
 use Rattle.layout.proofs.Seams.{Fine}
 use Rattle.terminal.specs.Pages.{Cell, glyph, at, spread, inked}
-use Rattle.terminal.specs.Calls.{Call, laid}
+use Rattle.terminal.specs.Calls.{laid}
 use Rattle.terminal.proofs.Laid.{laid-append, laid_none, spread-length}
 use Rattle.stream.specs.Controls.{is_control, final, first_number, ordered, lit, asked}
-use Rattle.stream.specs.Reader.{View, Desk, desk, heeded, typed, step}
+use Rattle.stream.specs.Reader.{View, desk, heeded, typed, step}
 use Rattle.stream.specs.Grounded.{penned}
 use Rattle.stream.proofs.Sequences.{final-csi}
 

@@ -1,5 +1,5 @@
 -- Control sequences among the pieces of a text.
-use Rattle.std.proofs.Common.{◌≡◌, ℕ, suc, ◌+◌, ◌-◌, ◌<◌, ◌≤◌, true, false, cond, ◌&&◌, ◌||◌, eqb, leb, List, [], ◌∷◌, ◌++◌, length, get_or, take, IsUtf8, IsAscii, sym, refl, ap, ◌∙◌, append_assoc, append-nil, arith, length-append}
+use Rattle.std.proofs.Common.{◌≡◌, ℕ, suc, ◌+◌, ◌-◌, ◌<◌, ◌≤◌, true, false, cond, ◌||◌, eqb, List, [], ◌∷◌, ◌++◌, length, get_or, take, IsAscii, sym, refl, ap, ◌∙◌, append_assoc, append-nil, arith, length-append}
 use lib.Seq.{take-append_seam}
 use lib.Utf8.{scalar, encode}
 use Rattle.std.specs.Char.{is_ascii_digit}

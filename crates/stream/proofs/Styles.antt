@@ -1,16 +1,14 @@
 -- A style that is sent is read as that style.
-use Rattle.std.proofs.Common.{◌≡◌, ℕ, ◌+◌, ◌^◌, ◌<◌, ◌≤◌, Bool, true, false, cond, ◌&&◌, leb, List, [], ◌∷◌, ◌++◌, length, Some, None, decimal, Option, sym, refl, ap, ◌∙◌, arith, length-append, rules}
+use Rattle.std.proofs.Common.{◌≡◌, ℕ, ◌^◌, ◌<◌, ◌≤◌, cond, List, [], ◌∷◌, length, Some, Option, refl, ap, ◌∙◌, arith, length-append, rules}
 use Rattle.std.specs.List.{AllByRecursion}
 use Rattle.std.proofs.lemmas.Fmt.{length-decimal-le}
-use Rattle.std.proofs.lemmas.Bool.{le-leb, cond-true, and_from}
 use Rattle.style.specs.declared.color.Color.{Color}
-use Rattle.style.specs.declared.color.Color.TheVariants.{AnsiValue, Rgb}
 use Rattle.style.specs.declared.style.StyleSheet.{StyleSheet}
 use Rattle.style.specs.Styles.{with_fg, with_bg}
 use Rattle.pen.specs.Pens.{after, numbers, steered}
 use Rattle.pen.proofs.Sequences.{colours-told}
 use Rattle.stream.proofs.Numbers.{reads-spelt, parameters-spelt}
-use Rattle.stream.specs.Bytes.{others, spelt, colouring, setting, coloured, Octets}
+use Rattle.stream.specs.Bytes.{spelt, colouring, setting, coloured, Octets}
 
 pub wider : (ns : List ℕ) → AllByRecursion (λ n. n < 2 ^ 8) ns → AllByRecursion (λ n. n < 2 ^ 64) ns
 wider [] h = tt

@@ -6,7 +6,7 @@ use Rattle.std.proofs.lemmas.Bool.{ne_eqb}
 use Rattle.ansi.specs.Pieces.{Part, sequence, letter, pieces}
 use Rattle.ansi.specs.Law.{Lawful}
 use Rattle.ansi.proofs.Laws.{lawful}
-use Rattle.pen.specs.Sequences.{csi, between, is_colour}
+use Rattle.pen.specs.Sequences.{between, is_colour}
 use Rattle.pen.specs.Checks.{Accepted}
 use Rattle.pen.proofs.Sequences.{colours-told}
 use Rattle.layout.proofs.Seams.{Fine, accepted-fine}

@@ -1,5 +1,5 @@
 -- What a terminal shows of the bytes that it is sent.
-use Rattle.std.specs.Prelude.{ℕ, ◌+◌, min, Bool, true, cond, List, [], ◌∷◌, Some, None, fold, Option, ◌==◌, nat_le}
+use Rattle.std.specs.Prelude.{ℕ, ◌+◌, min, Bool, true, cond, List, [], Some, None, fold, Option, ◌==◌, nat_le}
 use Rattle.style.specs.declared.style.StyleSheet.{StyleSheet}
 use Rattle.style.specs.Styles.{plain}
 use Rattle.size.specs.declared.position.Position.{Position}

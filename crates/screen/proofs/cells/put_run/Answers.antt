@@ -12,12 +12,12 @@ takes g c = subst (λ q. Takes c.loop-piece.piece-iterator q c.next.new.self) c.
 within : (g : given.Over) (c : goal.After-width-n g) → c.loop-piece.at + c.width-n.result < 2 ^ 64
 within g c = letter-within g.C.WidthRule.cells c.loop-piece.pen _ _ c.in-Char.c c.width-n.result c.loop-piece.at c.width-n.ensures (takes g (goal.at.After-width-n g c).In-Char) c.loop-piece.invariant
 
-pub put-char-requires : goal.put-char-requires
-put-char-requires g c = within g (goal.at.put-char-requires g c).After-width-n
+pub put_char-requires : goal.put_char-requires
+put_char-requires g c = within g (goal.at.put_char-requires g c).After-width-n
 
-pub overflow-add-at : goal.overflow-add-at
-overflow-add-at g c = let h = within g (goal.at.overflow-add-at g c).After-width-n in omega arith
+pub overflow_add-at : goal.overflow_add-at
+overflow_add-at g c = let h = within g (goal.at.overflow_add-at g c).After-width-n in omega arith
 
 pub loop-piece-preserved : goal.loop-piece-preserved
 loop-piece-preserved g c =
-    letter-put g.C.WidthRule.cells c.loop-piece.pen _ _ c.in-Char.c c.width-n.result c.loop-piece.at c.width-n.ensures (takes g (goal.at.loop-piece-preserved g c).In-Char) c.loop-piece.invariant c.put-char.ensures
+    letter-put g.C.WidthRule.cells c.loop-piece.pen _ _ c.in-Char.c c.width-n.result c.loop-piece.at c.width-n.ensures (takes g (goal.at.loop-piece-preserved g c).In-Char) c.loop-piece.invariant c.put_char.ensures

@@ -8,11 +8,11 @@ use Rattle.ansi_out.proofs.out.AnsiOut.set_size.Goals as goal
 pub unwrap-sent-requires : goal.unwrap-sent-requires
 unwrap-sent-requires c = let text = grounded-text (vec_items c.args.self.now.bytes) c.args.self.now.sound in search rules
 
-pub invariant-of-self : goal.invariant-of-self
-invariant-of-self c =
+pub invariant_of-self : goal.invariant_of-self
+invariant_of-self c =
     let s = c.args.self.now in
     let w = c.args.width in
     let same : vec_items c.args.self.now.bytes ≡ c.unwrap-sent.result.now = search rules in
     let line = line_stays table_cells w s.width (vec_items s.bytes) ∙ s.row in
-    let column = ap (λ l. (cursor_of table_cells w l).col) same ∙ sym c.cursor-column-col.ensures.value in
-    (s.sound, (line, (column, (s.paid, ((omega arith, omega arith, s.size.2), tt)))))
+    let column = ap (λ l. (cursor_of table_cells w l).col) same ∙ sym c.cursor_column-col.ensures.value in
+    record { sound = s.sound; row = line; column = column; paid = s.paid; size = (omega arith, omega arith, s.size.2) }

@@ -8,7 +8,7 @@ use Rattle.renderer.proofs.states.Resting.start.Goals as goal
 pub returns-in-Ok : goal.returns-in-Ok
 returns-in-Ok g c =
     let s = c.args.self in
-    let z = c.taken-size-size in
+    let z = c.taken_size-size in
     let h = c.in-Ok.ensures in
     by-start (rules g.T.Width.WidthRule.cells g.R.RowHash.seed g.R.RowHash.step) (g.T.Terminal.page s.terminal) (sheet_from s.frames.last) s.cursor_position
     z.result.width z.result.height z.ensures.0 z.ensures.1 h.wide h.fit h.last c.correct.ensures h.current h.mark
@@ -16,7 +16,7 @@ returns-in-Ok g c =
 pub returns-in-Err : goal.returns-in-Err
 returns-in-Err g c =
     let s = c.args.self in
-    let z = c.taken-size-size in
+    let z = c.taken_size-size in
     let h = c.in-Err.ensures in
     refuses-start (rules g.T.Width.WidthRule.cells g.R.RowHash.seed g.R.RowHash.step) (g.T.Terminal.page s.terminal) (sheet_from s.frames.last) s.cursor_position
     z.result.width z.result.height z.ensures.0 z.ensures.1 c.in-Err.e h.0 (ap (λ (x : Frames g.row.T-Width.Denot g.row.R.Denot). sheet_from x.last) h.1)

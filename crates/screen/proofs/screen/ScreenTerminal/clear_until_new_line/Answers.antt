@@ -4,4 +4,4 @@ use Rattle.screen.proofs.screen.ScreenTerminal.clear_until_new_line.Goals as goa
 pub returns : goal.returns
 returns g c =
     let s = c.args.self.now in
-    rest-cleared g.C.WidthRule.cells s.width s.line s.col s.shown s.purse c.pay.new.self s.cells.now c.fill.new.cells c.columns-width.result c.columns-width.ensures c.min-col.result c.min-col.ensures c.in-ok-pay.ensures c.fill.ensures
+    rest-cleared g.C.WidthRule.cells s.width s.line s.col s.shown s.purse c.pay.new.self s.cells.now c.fill.new.cells c.columns-width.result c.columns-width.ensures c.min-col.result c.min-col.ensures c.in_ok-pay.ensures c.fill.ensures

@@ -8,6 +8,6 @@ use Rattle.screen.proofs.screen.ScreenTerminal.write_styled.Goals as goal
 pub returns : goal.returns
 returns g c =
     let s = c.args.self.now in
-    let fitting = c.in-ok-run.ensures in
-    let put = subst (λ t. Stored (s.line * c.columns-width.result + c.min-col.result) (ink g.C.WidthRule.cells (run t c.args.style)) s.cells.now c.put-run.new.cells) fitting.0 c.put-run.ensures in
-    run-written g.C.WidthRule.cells s.width s.line s.col s.shown s.purse c.pay.new.self s.cells.now c.put-run.new.cells c.columns-width.result c.columns-width.ensures c.min-col.result c.min-col.ensures c.args.text.now c.args.style c.in-ok-run.cells fitting.1 c.in-ok-pay.ensures put
+    let fitting = c.in_ok-run.ensures in
+    let put = subst (λ t. Stored (s.line * c.columns-width.result + c.min-col.result) (ink g.C.WidthRule.cells (run t c.args.style)) s.cells.now c.put_run.new.cells) fitting.0 c.put_run.ensures in
+    run-written g.C.WidthRule.cells s.width s.line s.col s.shown s.purse c.pay.new.self s.cells.now c.put_run.new.cells c.columns-width.result c.columns-width.ensures c.min-col.result c.min-col.ensures c.args.text.now c.args.style c.in_ok-run.cells fitting.1 c.in_ok-pay.ensures put
