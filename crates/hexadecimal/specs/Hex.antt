@@ -1,6 +1,6 @@
 -- Bytes as text in lowercase hex.
 use Rattle.std.specs.Prelude.{◌≡◌, ℕ, ◌+◌, ◌/◌, ◌%◌, ◌<◌, cond, ◌⊎◌, List, [], ◌∷◌, Some, None, codes, Option, nat_lt}
-use Rattle.std.specs.List.{AllByRecursion as All}
+use Rattle.std.specs.List.{AllByRecursion}
 
 -- The character of a digit below 16: `0` to `9`, then `a` to `f`.
 abbrev pub digit_of : ℕ → ℕ
@@ -18,7 +18,7 @@ hex_of (b ∷ bs) = digits_of (b ∷ bs)
 
 -- Each number is a byte.
 abbrev pub Bytes : List ℕ → Type 0
-Bytes bs = All (λ b. b < 256) bs
+Bytes bs = AllByRecursion (λ b. b < 256) bs
 
 -- The text stands for the bytes. An empty list of bytes has two texts: `-` and the empty text.
 abbrev pub Spells : List ℕ → List ℕ → Type 0

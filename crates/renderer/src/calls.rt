@@ -17,7 +17,7 @@ use width::RowHash;
 impl<T: Terminal, R: RowHash> Resting<T, R> {
     /// A renderer over a terminal, of which nothing is called, and the receipt for it. Where memory is wanting, the terminal
     /// is handed back.
-    pub fn open(heap: Global, terminal: T) -> Result<(Resting<T, R>, Receipt), T>
+    pub(crate) fn open(heap: Global, terminal: T) -> Result<(Resting<T, R>, Receipt), T>
         ensures { MatchResult result (λ x. rests T.Terminal.page x.0 ≡ opened (rules T.Width.cells R.RowHash.seed R.RowHash.step) (T.Terminal.page terminal)) (λ t. t ≡ terminal) }
     {
         match Frames::open(heap) {
@@ -35,7 +35,7 @@ impl<T: Terminal, R: RowHash> Resting<T, R> {
 
     /// Begins an empty frame, at the size of the terminal. Refused at one column (6), and where the last frame does not fit,
     /// wrapped anew (4); the renderer is then handed back as it was.
-    pub fn start(self) -> Result<Drawing<T, R>, (Resting<T, R>, RenderError)>
+    pub(crate) fn start(self) -> Result<Drawing<T, R>, (Resting<T, R>, RenderError)>
         ensures { MatchResult result (λ d. Step (rules T.Width.cells R.RowHash.seed R.RowHash.step) (accepted start) (rests T.Terminal.page self) (draws T.Terminal.page d)) (λ x. Step (rules T.Width.cells R.RowHash.seed R.RowHash.step) (refused start x.1) (rests T.Terminal.page self) (rests T.Terminal.page x.0)) }
     {
         let Resting {
@@ -65,7 +65,7 @@ impl<T: Terminal, R: RowHash> Resting<T, R> {
 impl<T: Terminal, R: RowHash> Drawing<T, R> {
     /// Takes the size of the terminal anew: frames that are folded for another one are wrapped anew. Refused as `start` is;
     /// then all is as it was.
-    pub fn refresh(&mut self) -> Result<(), RenderError>
+    pub(crate) fn refresh(&mut self) -> Result<(), RenderError>
         ensures { MatchResult result (λ _. Step (rules T.Width.cells R.RowHash.seed R.RowHash.step) (accepted refresh) (draws T.Terminal.page self.old) (draws T.Terminal.page self.new)) (λ e. Step (rules T.Width.cells R.RowHash.seed R.RowHash.step) (refused refresh e) (draws T.Terminal.page self.old) (draws T.Terminal.page self.new)) }
     {
         let size = taken_size(&self.terminal);
@@ -75,7 +75,7 @@ impl<T: Terminal, R: RowHash> Drawing<T, R> {
     }
 
     /// Adds a text under a style to the frame. Refused (1 to 4), the frame is as it was.
-    pub fn write(&mut self, text: &[u8], style: StyleSheet) -> Result<(), RenderError>
+    pub(crate) fn write(&mut self, text: &[u8], style: StyleSheet) -> Result<(), RenderError>
         ensures { MatchResult result (λ _. Step (rules T.Width.cells R.RowHash.seed R.RowHash.step) (accepted (write style text.now)) (draws T.Terminal.page self.old) (draws T.Terminal.page self.new)) (λ e. Step (rules T.Width.cells R.RowHash.seed R.RowHash.step) (refused (write style text.now) e) (draws T.Terminal.page self.old) (draws T.Terminal.page self.new)) }
     {
         match self.frames.current.write(text, style) {
@@ -86,7 +86,7 @@ impl<T: Terminal, R: RowHash> Drawing<T, R> {
 
     /// Marks where the cursor is to stand after the frame is drawn, an offset behind the end of the open row. Refused (5), an
     /// older mark stays.
-    pub fn mark(&mut self, offset: isize) -> Result<Position, RenderError>
+    pub(crate) fn mark(&mut self, offset: isize) -> Result<Position, RenderError>
         ensures { MatchResult result (λ x. Step (rules T.Width.cells R.RowHash.seed R.RowHash.step) (accepted (mark offset)) (draws T.Terminal.page self.old) (draws T.Terminal.page self.new) × (self.new.frames.current.expected_cursor_position ≡ Some x)) (λ e. Step (rules T.Width.cells R.RowHash.seed R.RowHash.step) (refused (mark offset) e) (draws T.Terminal.page self.old) (draws T.Terminal.page self.new)) }
     {
         match self.frames.current.mark_cursor_position(offset) {
