@@ -1,6 +1,5 @@
 // The size of a terminal.
-ghost use Rattle.std.specs.Prelude.{◌≡◌, ◌<◌, ◌⊎◌, ◌==◌, ◌&&◌, Decides, MatchOption, nat_eq};
-ghost use Rattle.std.specs.Ordering.{on, eq_of_both};
+ghost use Rattle.std.specs.Prelude.{◌≡◌, ◌<◌, ◌⊎◌, Decides, MatchOption};
 ghost use Rattle.std.specs.Cmp.Rules.{comparing};
 ghost use Rattle.std.proofs.Common.{rules, arith};
 
@@ -51,13 +50,16 @@ impl Default for TerminalSize {
 }
 
 impl PartialEq for TerminalSize {
-    ghost eq = { eq_of_both (on (λ v. v.width) nat_eq) (on (λ v. v.height) nat_eq) };
+    ghost use Rattle.size.specs.Equality.{same_size, SizesDecide};
+
+    ghost eq = { same_size };
 
     ghost laws = { first_of (Prim.search (comparing, rules), Prim.grind (arith, Self.row.coded.inj)) };
 
     fn eq(&self, other: &TerminalSize) -> bool
-        ensures value { result ≡ (self.now.width == other.now.width && self.now.height == other.now.height) }
+        ensures value { result ≡ same_size self.now other.now }
         ensures decides { Decides result ((self.now.width ≡ other.now.width) × (self.now.height ≡ other.now.height)) }
+        ensures law { SizesDecide }
     {
         self.width == other.width && self.height == other.height
     }

@@ -1,6 +1,8 @@
--- Distinct styles have distinct bytes: the bytes tell the style. The laws of `==` and of `Hash` rest on it.
-use Rattle.std.proofs.Common.{◌≡◌, ℕ, zero, suc, List, [], ◌∷◌, ◌++◌, length, get_or, Some, None, Option, Decides, nat_eq, sym, refl, ap, ◌∙◌, arith, rules}
-use Rattle.std.specs.Cmp.Lexicographic.{pointwise, bytes_decides}
+-- Distinct styles have distinct bytes: the bytes tell the style. What `==` decides rests on it, and the law of `Hash`.
+use Rattle.std.proofs.Common.{◌≡◌, ℕ, zero, suc, Bool, true, false, ◌&&◌, ◌⊎◌, MatchBool, inl, inr, List, [], ◌∷◌, ◌++◌, length, get_or, Some, None, Option, Decides, sym, refl, ap, ◌∙◌, arith, rules}
+use Rattle.std.specs.Cmp.{booleans_Decides}
+use Rattle.std.specs.Cmp.Lexicographic.{bytes_decides}
+use Rattle.std.specs.Option.{option_eq}
 use Rattle.style.specs.declared.color.Color.{Color}
 use Rattle.style.specs.declared.color.Color.TheVariants.{Rgb, AnsiValue}
 use Rattle.style.specs.declared.style.Attributes.{Attributes}
@@ -8,6 +10,7 @@ use Rattle.style.specs.declared.style.StyleSheet.{StyleSheet}
 use Rattle.style.specs.Attrs.{bits_of}
 use Rattle.style.specs.Bytes.{color_bytes, optional_bytes, style_bytes}
 use Rattle.style.specs.Colors.{named}
+use Rattle.style.specs.Equality.{same_color, same_attributes, ColorsDecide, StylesDecide, StyledAlike}
 
 -- The colour, if any, with this kind and three other bytes.
 abbrev told : ℕ → ℕ → ℕ → ℕ → Option Color
@@ -52,9 +55,42 @@ distinct s t e =
     let att : s.att ≡ t.att = same_bits _ _ (cc) in
     λ i. record { fg = same-optional s.fg t.fg fg.0 i; bg = same-optional s.bg t.bg bg.0 i; att = att i }
 
--- A test of the bytes decides equality.
-pub colors-decide : (c d : Color) → Decides (pointwise nat_eq (color_bytes c) (color_bytes d)) (c ≡ d)
-colors-decide c d = (λ e. same-color c d ((bytes_decides _ _).0 e), λ e. (bytes_decides _ _).1 (ap color_bytes e))
+pub same_color-decides : (c d : Color) → Decides (same_color c d) (c ≡ d)
+same_color-decides c d = (λ e. same-color c d ((bytes_decides _ _).0 e), λ e. (bytes_decides _ _).1 (ap color_bytes e))
 
-pub styles-decide : (s t : StyleSheet) → Decides (pointwise nat_eq (style_bytes s) (style_bytes t)) (s ≡ t)
-styles-decide s t = (λ e. distinct s t ((bytes_decides _ _).0 e), λ e. (bytes_decides _ _).1 (ap style_bytes e))
+option_eq-decides : (o p : Option Color) → Decides (option_eq same_color o p) (o ≡ p)
+option_eq-decides None None = (λ _. refl, λ _. refl)
+option_eq-decides None (Some d) = (λ e. cc, λ e. cc)
+option_eq-decides (Some c) None = (λ e. cc, λ e. cc)
+option_eq-decides (Some c) (Some d) = (λ e. ap Some ((same_color-decides c d).0 e), λ e. (same_color-decides c d).1 (cc))
+
+pub colors_decide : ColorsDecide
+colors_decide = record { colors = same_color-decides; options = option_eq-decides }
+
+both-decide : {P Q : Type 0} (x y : Bool) → Decides x P → Decides y Q → Decides (x && y) (P × Q)
+both-decide true true d e = (λ _. (d.0 refl, e.0 refl), λ _. refl)
+both-decide true false d e = (λ h. cc, λ h. e.1 h.1)
+both-decide false y d e = (λ h. cc, λ h. d.1 h.0)
+
+same_attributes-decides : (a b : Attributes) → Decides (same_attributes a b) (a ≡ b)
+same_attributes-decides a b =
+    let d = both-decide _ _ (booleans_Decides a.italic b.italic) (booleans_Decides a.bold b.bold) in (
+      λ h. let e = d.0 h in λ i. record { italic = e.0 i; bold = e.1 i },
+      λ h. d.1 ((λ i. (h i).italic), (λ i. (h i).bold)),
+    )
+
+pub styles_decide : StylesDecide
+styles_decide s t =
+    let d = both-decide _ _ (both-decide _ _ (option_eq-decides s.fg t.fg) (option_eq-decides s.bg t.bg)) (same_attributes-decides s.att t.att) in (
+      λ h. let e = d.0 h in λ i. record { fg = e.0.0 i; bg = e.0.1 i; att = e.1 i },
+      λ h. d.1 (((λ i. (h i).fg), (λ i. (h i).bg)), (λ i. (h i).att)),
+    )
+
+-- The style's test stands first, as in `Alike`.
+alike-at : (x y : Bool) {P : Type 0} → Decides x P → MatchBool (x && y) (P × (true ≡ y)) ((P → ⊥) ⊎ (false ≡ y))
+alike-at true true d = (d.0 refl, refl)
+alike-at true false d = inr refl
+alike-at false y d = inl (λ p. let no : false ≡ true = d.1 p in cc)
+
+pub styled_alike : {T : Type 0} (same : T → T → Bool) → StyledAlike same
+styled_alike same a b = alike-at _ _ (styles_decide a.style b.style)

@@ -1,12 +1,11 @@
 //! The colours of text.
 
-ghost use Rattle.std.specs.Prelude.{◌≡◌, ◌==◌, Decides};
+ghost use Rattle.std.specs.Prelude.{◌≡◌, Decides};
 ghost use Rattle.style.specs.Bytes.{color_bytes};
 ghost use Rattle.style.specs.Colors.{code_of, named, CodesName};
 ghost use Rattle.std.specs.Cmp.Rules.{comparing};
 ghost use Rattle.std.proofs.Common.{rules};
-ghost use Rattle.std.specs.Cmp.Lexicographic.{pointwise};
-ghost use Rattle.std.specs.Ordering.{on};
+ghost use Rattle.style.specs.Equality.{same_color, ColorsDecide};
 
 /// A colour of text.
 ///
@@ -88,15 +87,16 @@ impl Color {
     }
 }
 
-/// Written out, since a derived one of so many variants promises nothing.
+/// Written out, to promise that it decides equality.
 impl PartialEq for Color {
-    ghost eq = { on color_bytes (pointwise ◌==◌) };
+    ghost eq = { same_color };
 
     ghost laws = { Prim.search (comparing, rules) };
 
     fn eq(&self, other: &Color) -> bool
-        ensures bytes { result ≡ pointwise ◌==◌ (color_bytes self.now) (color_bytes other.now) }
+        ensures value { result ≡ same_color self.now other.now }
         ensures decides { Decides result (self.now ≡ other.now) }
+        ensures law { ColorsDecide }
     {
         self.to_bytes() == other.to_bytes()
     }
@@ -108,9 +108,9 @@ impl Eq for Color {
 
 #[derived]
 impl Hash for Color {
-    ghost use Rattle.style.specs.Distinct.{colors-decide};
+    ghost use Rattle.style.specs.Distinct.{same_color-decides};
 
-    ghost respects_eq = { λ x y h. let e : x ≡ y = (colors-decide x y).0 h in Prim.cc };
+    ghost respects_eq = { λ x y h. let e : x ≡ y = (same_color-decides x y).0 h in Prim.cc };
 }
 
 /// The named colours in the order of their codes.

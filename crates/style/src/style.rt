@@ -1,13 +1,12 @@
 //! Attributes, style sheets and styled contents.
 
-ghost use Rattle.std.specs.Prelude.{◌≡◌, ◌==◌, ◌&&◌, Decides, nat_lt};
+ghost use Rattle.std.specs.Prelude.{◌≡◌, Decides, nat_lt};
 ghost use Rattle.style.specs.Attrs.{no_flags, Contains, joined, bits_of, attributes_of, BitsTell, without};
 ghost use Rattle.style.specs.Bytes.{optional_bytes, style_bytes, BytesTell};
 ghost use Rattle.style.specs.Styles.{plain, is_plain, OnlyPlain, styled, Alike, with_fg, with_bg, with_attr};
 ghost use Rattle.std.specs.Cmp.Rules.{comparing};
 ghost use Rattle.std.proofs.Common.{rules};
-ghost use Rattle.std.specs.Cmp.Lexicographic.{pointwise};
-ghost use Rattle.std.specs.Ordering.{on, eq_of_both};
+ghost use Rattle.style.specs.Equality.{same_style, same_styled, StylesDecide, StyledAlike};
 
 use crate::color::Color;
 use std::fmt::Display;
@@ -184,6 +183,13 @@ impl StyleSheet {
             self.att.bits(),
         ]
     }
+
+    // Whether both colours and the attributes are those of `other`.
+    fn has_fields_of(&self, other: &StyleSheet) -> bool
+        ensures { result ≡ same_style self.now other.now }
+    {
+        self.fg == other.fg && self.bg == other.bg && self.att == other.att
+    }
 }
 
 /// Four bytes of a colour that may be missing: then all are 0.
@@ -207,27 +213,28 @@ impl Default for StyleSheet {
 
 /// Written out, to promise that it decides equality.
 impl PartialEq for StyleSheet {
-    ghost eq = { on style_bytes (pointwise ◌==◌) };
+    ghost eq = { same_style };
 
-    ghost laws = { Prim.search (comparing, rules) };
+    ghost laws = { Prim.search (comparing, rules) depth 9 };
 
     fn eq(&self, other: &StyleSheet) -> bool
-        ensures bytes { result ≡ pointwise ◌==◌ (style_bytes self.now) (style_bytes other.now) }
+        ensures value { result ≡ same_style self.now other.now }
         ensures decides { Decides result (self.now ≡ other.now) }
+        ensures law { StylesDecide }
     {
-        self.fg == other.fg && self.bg == other.bg && self.att == other.att
+        self.has_fields_of(other)
     }
 }
 
 impl Eq for StyleSheet {
-    ghost laws = { Prim.search (comparing, rules) };
+    ghost laws = { Prim.search (comparing, rules) depth 9 };
 }
 
 #[derived]
 impl Hash for StyleSheet {
-    ghost use Rattle.style.specs.Distinct.{styles-decide};
+    ghost use Rattle.style.specs.Distinct.{styles_decide};
 
-    ghost respects_eq = { λ x y h. let e : x ≡ y = (styles-decide x y).0 h in Prim.cc };
+    ghost respects_eq = { λ x y h. let e : x ≡ y = (styles_decide x y).0 h in Prim.cc };
 }
 
 /// A content with the style that it is to be shown in.
@@ -331,13 +338,15 @@ impl<T> PartialEq for Styled<T>
 where
     T: PartialEq + Display,
 {
-    ghost eq = { eq_of_both (on (λ a. a.style) (on style_bytes (pointwise ◌==◌))) (on (λ a. a.content) T.PartialEq.eq) };
+    ghost eq = { same_styled T.PartialEq.eq };
 
-    ghost laws = { Prim.search (comparing, rules) };
+    ghost laws = { Prim.search (comparing, rules) depth 9 };
 
+    #[tactic(auto, using(crate::specs::Distinct::styled_alike))]
     fn eq(&self, other: &Styled<T>) -> bool
-        ensures value { result ≡ (pointwise ◌==◌ (style_bytes self.now.style) (style_bytes other.now.style) && T.PartialEq.eq self.now.content other.now.content) }
+        ensures value { result ≡ same_styled T.PartialEq.eq self.now other.now }
         ensures alike { Alike (λ x y r. r ≡ T.PartialEq.eq x y) self.now other.now result }
+        ensures law { StyledAlike T.PartialEq.eq }
     {
         self.style == other.style && self.content == other.content
     }
@@ -347,7 +356,7 @@ impl<T> Eq for Styled<T>
 where
     T: Eq + Display,
 {
-    ghost laws = { Prim.search (comparing, rules) };
+    ghost laws = { Prim.search (comparing, rules) depth 9 };
 }
 
 #[cfg(test)]
