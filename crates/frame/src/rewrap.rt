@@ -5,7 +5,7 @@ ghost use Rattle.layout.specs.Tally.{Within, tally_of};
 ghost use Rattle.layout.specs.Writing.{run, closed, fresh, rewrite_run, rewrapped};
 ghost use Rattle.store.specs.Piles.{no_run};
 ghost use Rattle.frame.specs.Counts.{counts_of, Room};
-ghost use Rattle.frame.specs.Drafts.{frame_of, rule_at};
+ghost use Rattle.frame.specs.Drafts.{frame_of, rule_by};
 ghost use Rattle.frame.specs.Rewraps.{runs_in, Tells, Measures, Spread};
 
 use crate::draft::Draft;
@@ -99,7 +99,7 @@ impl<R: RowHash> Draft<R> {
 
     // The counts of the draft wrapped anew.
     pub(crate) fn measure_rewrap<C: WidthRule>(&self, columns: u16) -> Counts
-        ensures value { counts_of result ≡ tally_of (rewrapped (rule_at columns C.WidthRule.cells R.RowHash.seed R.RowHash.step) (frame_of self.now)) }
+        ensures value { counts_of result ≡ tally_of (rewrapped (rule_by columns C.WidthRule R.RowHash) (frame_of self.now)) }
         ensures room { Room 1 result }
     {
         let mut end = Measured::fresh();
@@ -113,8 +113,8 @@ impl<R: RowHash> Draft<R> {
 
     // The runs of another draft's row are written.
     fn rewrite_line<C: WidthRule>(&mut self, columns: u16, from: &Draft<R>, line: Line)
-        requires { Within (tally_of (fold (rewrite_run (rule_at columns C.WidthRule.cells R.RowHash.seed R.RowHash.step)) (frame_of self.old) (runs_in line (frame_of from.now)))) }
-        ensures { frame_of self.new ≡ fold (rewrite_run (rule_at columns C.WidthRule.cells R.RowHash.seed R.RowHash.step)) (frame_of self.old) (runs_in line (frame_of from.now)) }
+        requires { Within (tally_of (fold (rewrite_run (rule_by columns C.WidthRule R.RowHash)) (frame_of self.old) (runs_in line (frame_of from.now)))) }
+        ensures { frame_of self.new ≡ fold (rewrite_run (rule_by columns C.WidthRule R.RowHash)) (frame_of self.old) (runs_in line (frame_of from.now)) }
     {
         let mut k = 0;
         while let Some((text, style)) = from.line_run(line, k) {
@@ -125,8 +125,8 @@ impl<R: RowHash> Draft<R> {
 
     // The draft becomes another one, wrapped anew.
     pub(crate) fn rewrite<C: WidthRule>(&mut self, columns: u16, from: &Draft<R>)
-        requires { Within (tally_of (rewrapped (rule_at columns C.WidthRule.cells R.RowHash.seed R.RowHash.step) (frame_of from.now))) }
-        ensures { frame_of self.new ≡ rewrapped (rule_at columns C.WidthRule.cells R.RowHash.seed R.RowHash.step) (frame_of from.now) }
+        requires { Within (tally_of (rewrapped (rule_by columns C.WidthRule R.RowHash) (frame_of from.now))) }
+        ensures { frame_of self.new ≡ rewrapped (rule_by columns C.WidthRule R.RowHash) (frame_of from.now) }
     {
         self.clear();
         for i in 0..from.store.rows_len() {
