@@ -19,7 +19,7 @@ parting [] (y ∷ ys) us vs u v l e = absurd (omega arith)
 parting (x ∷ xs) [] us vs u v l e = absurd (omega arith)
 parting (x ∷ xs) (y ∷ ys) us vs u v l e = parting xs ys us vs u v (omega arith) (cc)
 
-never : {P : Type 0} (r : Bool) → r ≡ false → (P → ⊥) → Decides r P
+pub never : {P : Type 0} (r : Bool) → r ≡ false → (P → ⊥) → Decides r P
 never r e h = ((λ q. absurd (both_ways r e q)), (λ p. absurd (h p)))
 
 module _ {S A B : Type 0} (v : A → B) (rest : S → List B) where
