@@ -16,9 +16,9 @@ use Rattle.drawing.specs.Tries.{Tried, drawn}
 
 module _ (cells : ℕ → ℕ) where
   -- one order, of which the answer is told with its kind and its row
-  pub tried-one : (o : Order) (p q : Page) (a : Result (Unit {0}) Fault) (r : Result (Unit {0}) DrawError) → Outcome cells o.call p a q → r ≡ drawn a (kind_of o.call) o.row → Tried cells (o ∷ []) p r q
-  tried-one o p q (Ok x) r h e = rw e (one h)
-  tried-one o p q (Err f) r h e = rw e (o, fails o [] h, refl, refl)
+  pub tried_one : (o : Order) (p q : Page) (a : Result (Unit {0}) Fault) (r : Result (Unit {0}) DrawError) → Outcome cells o.call p a q → r ≡ drawn a (kind_of o.call) o.row → Tried cells (o ∷ []) p r q
+  tried_one o p q (Ok x) r h e = rw e (one h)
+  tried_one o p q (Err f) r h e = rw e (o, fails o [] h, refl, refl)
 
   -- orders behind orders that are performed
   pub then-tried : (cs ds : List Order) (p m q : Page) (r : Result (Unit {0}) DrawError) → Did cells cs p m → Tried cells ds m r q → Tried cells (cs ++ ds) p r q

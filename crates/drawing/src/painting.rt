@@ -1,9 +1,10 @@
 // Painting a frame once.
-ghost use Rattle.std.specs.Prelude.{[], length, OnOk};
+ghost use Rattle.std.specs.Prelude.{[], ◌∷◌, length, OnOk};
 ghost use Rattle.store.specs.Walks.{runs_left};
 ghost use Rattle.frame.specs.States.{sheet_of};
+ghost use Rattle.terminal.specs.Calls.{return};
 ghost use Rattle.drawing.specs.Painted.{Blank};
-ghost use Rattle.drawing.specs.Drawing.{sent, row_end, rows_from};
+ghost use Rattle.drawing.specs.Drawing.{for_row, sent, row_end, rows_from};
 ghost use Rattle.drawing.specs.Tries.{Tried};
 ghost use Rattle.drawing.specs.Law.{Paints};
 
@@ -24,15 +25,19 @@ fn write_row<T: Terminal>(terminal: &mut T, i: usize, runs: Runs) -> Result<(), 
     Ok(())
 }
 
+// Goes to the start of the row's line.
+#[tactic(auto, using(crate::proofs::Tries::tried_one))]
+fn return_from<T: Terminal>(terminal: &mut T, i: usize) -> Result<(), DrawError>
+    ensures { Tried T.Width.cells (for_row i return ∷ []) (T.Terminal.page terminal.old) result (T.Terminal.page terminal.new) }
+{
+    DrawError::check(terminal.carriage_return(), CallKind::CarriageReturn, Some(i))
+}
+
 // Goes to the next line's start behind a row, and stays on the row's line where no rows are left.
 fn end_row<T: Terminal>(terminal: &mut T, i: usize, rows_left: usize) -> Result<(), DrawError>
     ensures { Tried T.Width.cells (row_end i rows_left) (T.Terminal.page terminal.old) result (T.Terminal.page terminal.new) }
 {
-    DrawError::check(
-        terminal.carriage_return(),
-        CallKind::CarriageReturn,
-        Some(i),
-    )?;
+    return_from(terminal, i)?;
     if rows_left > 0 {
         DrawError::check(terminal.line_feed(), CallKind::LineFeed, Some(i))?;
     }
