@@ -4,4 +4,3 @@ pub mod Rows
 pub mod Redraw
 pub mod Idle
 pub mod Tries
-pub mod Limits

@@ -20,8 +20,8 @@ run-decides a b =
 
 runs-decide : (us vs : List Run) → Decides (same_runs us vs) (us ≡ vs)
 runs-decide [] [] = ((λ _. refl), (λ _. refl))
-runs-decide [] (v ∷ vs) = never (λ e. omega (arith, ap length e))
-runs-decide (u ∷ us) [] = never (λ e. omega (arith, ap length e))
+runs-decide [] (v ∷ vs) = never _ refl (λ e. omega (arith, ap length e))
+runs-decide (u ∷ us) [] = never _ refl (λ e. omega (arith, ap length e))
 runs-decide (u ∷ us) (v ∷ vs) =
     Decides-like (same_runs (u ∷ us) (v ∷ vs)) (λ h i. h.0 i ∷ h.1 i) (λ e. (cc, cc)) (Decides-and (same_run u v) (same_runs us vs) (run-decides u v) (runs-decide us vs))
 

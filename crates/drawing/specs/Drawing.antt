@@ -34,7 +34,7 @@ row_orders i None (Some b) = sent i b.runs
 row_orders i None None = []
 
 -- a feed behind row i, if n rows remain
-abbrev feed_if : ℕ → ℕ → List Order
+abbrev pub feed_if : ℕ → ℕ → List Order
 feed_if i zero = []
 feed_if i (suc n) = for_row i feed ∷ []
 

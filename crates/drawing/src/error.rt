@@ -12,9 +12,16 @@ pub struct DrawError {
 }
 
 impl DrawError {
-    pub(crate) fn new(fault: Fault, call: CallKind, row: Option<usize>) -> DrawError
-        ensures { (result.fault ≡ fault) × (result.call ≡ call) × (result.row ≡ row) }
+    ghost use Rattle.drawing.specs.Tries.{drawn};
+
+    // The answer of a call that is made for a row, or for none.
+    pub(crate) fn check(
+        answer: Result<(), Fault>,
+        call: CallKind,
+        row: Option<usize>,
+    ) -> Result<(), DrawError>
+        ensures { result ≡ drawn answer call row }
     {
-        DrawError { fault, call, row }
+        answer.map_err(|fault| DrawError { fault, call, row })
     }
 }

@@ -9,34 +9,34 @@ use size::Position;
 use terminal::{CallKind, Terminal};
 use width::WidthRule;
 
+// Passing the two calls of a direction as closures to one function would be no plainer: they would have to promise what
+// each call does, so there is one function for rows and one for columns.
 fn move_row<T: Terminal>(terminal: &mut T, from: u16, to: u16) -> Result<(), DrawError>
     ensures { Tried T.Width.cells (steps up down from to) (T.Terminal.page terminal.old) result (T.Terminal.page terminal.new) }
 {
     if to < from {
-        if let Err(fault) = terminal.cursor_up(from - to) {
-            return Err(DrawError::new(fault, CallKind::CursorUp, None));
-        }
+        DrawError::check(terminal.cursor_up(from - to), CallKind::CursorUp, None)
     } else if from < to {
-        if let Err(fault) = terminal.cursor_down(to - from) {
-            return Err(DrawError::new(fault, CallKind::CursorDown, None));
-        }
+        DrawError::check(terminal.cursor_down(to - from), CallKind::CursorDown, None)
+    } else {
+        Ok(())
     }
-    Ok(())
 }
 
 fn move_column<T: Terminal>(terminal: &mut T, from: u16, to: u16) -> Result<(), DrawError>
     ensures { Tried T.Width.cells (steps left right from to) (T.Terminal.page terminal.old) result (T.Terminal.page terminal.new) }
 {
     if to < from {
-        if let Err(fault) = terminal.cursor_left(from - to) {
-            return Err(DrawError::new(fault, CallKind::CursorLeft, None));
-        }
+        DrawError::check(terminal.cursor_left(from - to), CallKind::CursorLeft, None)
     } else if from < to {
-        if let Err(fault) = terminal.cursor_right(to - from) {
-            return Err(DrawError::new(fault, CallKind::CursorRight, None));
-        }
+        DrawError::check(
+            terminal.cursor_right(to - from),
+            CallKind::CursorRight,
+            None,
+        )
+    } else {
+        Ok(())
     }
-    Ok(())
 }
 
 /// Moves the cursor from a position, where it is, to another: rows before columns, and nothing where they are equal. It

@@ -3,4 +3,3 @@ pub mod Rewrapping
 pub mod Rewriting
 pub mod Stepping
 pub mod Taking
-pub mod Widest

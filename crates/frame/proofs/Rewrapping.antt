@@ -17,13 +17,11 @@ use Rattle.layout.proofs.Rooms.{fits-within}
 use Rattle.layout.specs.Writing.{some, run, closed, fresh, put_all, styled, ended, written, rewrite_run, rewrite_row, rewrapped}
 use Rattle.layout.proofs.Tallies.{style-ended, style-put-all, tally-fits, tally-put-all, tally-of-written}
 use Rattle.store.specs.Piles.{no_run, no_row}
-use Rattle.store.proofs.Found.{bytes-held, runs-held}
+use Rattle.store.proofs.Found.{bytes-held, rows-count, runs-held}
 use Rattle.frame.specs.Counts.{counts_of, Room, counting}
 use Rattle.frame.specs.Drafts.{frame_of, rule_at}
-use Rattle.frame.specs.Rewraps.{runs_in, Tells, Measures, Spread}
+use Rattle.frame.specs.Rewraps.{Tells, MeasuresRuns, MeasuresRows, Spread, runs_room, rows_room}
 use Rattle.frame.specs.declared.draft.Draft.{Draft}
-use Rattle.frame.specs.declared.rewrap.Line.{Line}
-use Rattle.frame.specs.declared.rewrap.Line.TheVariants.{Finished, Open}
 use Rattle.frame.specs.declared.rewrap.Measured.{Measured}
 use Rattle.frame.specs.declared.tally.Counts.{Counts}
 use Rattle.frame.proofs.Fitting.{same-counts}
@@ -76,7 +74,7 @@ spread-parts k bare t (sequence q ∷ ps) bs (cs, (rest, (begins, (is, (shortest
     let some : 0 < length q = omega (arith, ap length begins) in
     subst (λ n. Spread n t (tally_all k bare u ps)) (sym size) (spread_join (length q) (length rest) t u (tally_all k bare u ps) (spread-sequence k bare t q some) (spread-parts k bare u ps rest more))
 
-pub spread-run : (k : Rule) (bare : Bool) (t u v : Tally) (text : List ℕ) → IsUtf8 text → u ≡ tally_all k bare t (pieces text) → v ≡ tally_ended u → Spread (1 + length text) t v
+spread-run : (k : Rule) (bare : Bool) (t u v : Tally) (text : List ℕ) → IsUtf8 text → u ≡ tally_all k bare t (pieces text) → v ≡ tally_ended u → Spread (1 + length text) t v
 spread-run k bare t u v text w is end =
     let p : Spread (length text) t u = subst (Spread (length text) t) (sym is) (spread-parts k bare t (pieces text) text (lawful text w)) in
     let q : Spread 1 u v = subst (Spread 1 u) (sym end) (spread-ended u) in
@@ -94,10 +92,10 @@ module _ (columns : ℕ) (cells : ℕ → ℕ) (seed : ℕ) (step : ℕ → ℕ 
   whole : end ≡ tally_all k (is_plain style) (tally_of f) (pieces text)
   whole = all ∙ (λ i. tally_all (counting columns cells) (is i) (from i) (pieces text)) ∙ sym (same-counts columns cells seed step (is_plain style) (tally_of f) (pieces text))
 
-  pub run-counts : (last : Tally) → last ≡ tally_ended end → last ≡ tally_of (written k style text f)
+  run-counts : (last : Tally) → last ≡ tally_ended end → last ≡ tally_of (written k style text f)
   run-counts last e = e ∙ ap tally_ended whole ∙ sym (tally-of-written k style text f)
 
-  pub run-bare : (b : Bool) → b ≡ (end.text || bare) → b ≡ is_plain (written k style text f).style
+  run-bare : (b : Bool) → b ≡ (end.text || bare) → b ≡ is_plain (written k style text f).style
   run-bare b e =
       let g : Frame = put_all k (styled style f) (pieces text) in
       let s = style-put-all k (styled style f) (pieces text) in
@@ -105,92 +103,122 @@ module _ (columns : ℕ) (cells : ℕ → ℕ) (seed : ℕ) (step : ℕ → ℕ 
       let ends : is_plain (ended g).style ≡ (some g.text || is_plain g.style) = ap is_plain (style-ended g) ∙ plain-either (some g.text) g.style in
       e ∙ (λ i. (whole i).text || is i) ∙ sym (ends ∙ (λ i. (t i).text || is_plain (s i)))
 
--- a run and a row of a store keep within its limits
-run-size : (rs : List Run) (k : ℕ) → length (get_or rs k no_run).text ≤ bytes_of_runs rs
-unfolding bytes_of_runs
-run-size [] k = omega (arith, ap (λ (r : Run). length r.text) (get_or_past [] k no_run (omega arith)))
-run-size (r ∷ rs) zero = omega arith
-run-size (r ∷ rs) (suc k) = omega (arith, run-size rs k)
+-- one run, measured
+module _ (columns : ℕ) (cells : ℕ → ℕ) (style : StyleSheet) (text : List ℕ) (s : Measured) (end last : Counts) (bare : Bool) (utf8 : IsUtf8 text) (is : bare ≡ is_plain style) (all : counts_of end ≡ tally_all (counting columns cells) bare (counts_of s.counts) (pieces text)) (ends : counts_of last ≡ tally_ended (counts_of end)) where
+  pub run-measured : (b : Bool) → b ≡ (end.text || bare) → MeasuresRuns columns cells (run text style ∷ []) s (record { counts = last; bare = b })
+  unfolding bytes_of_runs
+  run-measured b e =
+      let p = spread-run (counting columns cells) bare (counts_of s.counts) (counts_of end) (counts_of last) text utf8 all ends in
+      record {
+        tells = λ seed step f t. record {
+          counts = run-counts columns cells seed step style text f _ _ _ is t.counts all _ ends;
+          bare = run-bare columns cells seed step style text f _ _ _ is t.counts all b e;
+        };
+        spread = record { rows = omega (arith, p.rows); runs = omega (arith, p.runs); bytes = omega (arith, p.bytes) };
+      }
 
-row-size : (ws : List Row) (i : ℕ) → bytes_of_runs (get_or ws i no_row).runs ≤ bytes_of_rows ws
-unfolding bytes_of_runs bytes_of_rows
-row-size [] i = omega (arith, ap (λ (w : Row). bytes_of_runs w.runs) (get_or_past [] i no_row (omega arith)))
-row-size (w ∷ ws) zero = omega arith
-row-size (w ∷ ws) (suc i) = omega (arith, row-size ws i)
-
-row-length : (ws : List Row) (i : ℕ) → length (get_or ws i no_row).runs ≤ runs_of_rows ws
-unfolding runs_of_rows
-row-length [] i = omega (arith, ap (λ (w : Row). length w.runs) (get_or_past [] i no_row (omega arith)))
-row-length (w ∷ ws) zero = omega arith
-row-length (w ∷ ws) (suc i) = omega (arith, row-length ws i)
-
-module _ {R : Type 0} (d : Draft R) where
-  pub few-runs : (line : Line) → length (runs_in line (frame_of d)) ≤ 1024
-  few-runs (Finished i) = omega (arith, row-length (frame_of d).rows i, runs-held d.store, d.store.limits.1)
-  few-runs Open = omega (arith, runs-held d.store, d.store.limits.1)
-
-  pub short-run : (line : Line) (k : ℕ) → length (get_or (runs_in line (frame_of d)) k no_run).text ≤ 16384
-  short-run (Finished i) k = omega (arith, run-size (get_or (frame_of d).rows i no_row).runs k, row-size (frame_of d).rows i, bytes-held d.store, d.store.limits.0)
-  short-run Open k = omega (arith, run-size (frame_of d).runs k, bytes-held d.store, d.store.limits.0)
+spread_none : (t : Tally) → Spread 0 t t
+spread_none t = record { rows = omega arith; runs = omega arith; bytes = omega arith }
 
 -- a turn of the loop over the runs
-module _ (columns : ℕ) (cells : ℕ → ℕ) (rs : List Run) (s m : Measured) (k : ℕ) (so : Measures columns cells (take k rs) s m) where
-  pub measure-more : k < length rs → (text : List ℕ) (style : StyleSheet) → text ≡ (get_or rs k no_run).text → style ≡ (get_or rs k no_run).style → (n : Measured) → Measures columns cells (run text style ∷ []) m n → Measures columns cells (take (k + 1) rs) s n
-  measure-more l text style p q n h seed step f t =
-      let rule = rewrite_run (rule_at columns cells seed step) in
-      let last = h seed step (fold rule f (take k rs)) (so seed step f t) in
-      let same : rule (fold rule f (take k rs)) (run text style) ≡ fold rule f (take (k + 1) rs) = (λ i. rule (fold rule f (take k rs)) (run (p i) (q i))) ∙ sym (fold_more rule f rs k no_run l) in
-      subst (Tells n) same last
+module _ (columns : ℕ) (cells : ℕ → ℕ) where
+  no-runs : (m : Measured) → MeasuresRuns columns cells [] m m
+  unfolding bytes_of_runs
+  no-runs m = record { tells = λ seed step f t. t; spread = spread_none (counts_of m.counts) }
 
-  pub measure-end : length rs ≤ k → Measures columns cells rs s m
-  measure-end l = subst (λ xs. Measures columns cells xs s m) (take_all k rs l) so
+  more-runs : (r : Run) (rs : List Run) (s m n : Measured) → MeasuresRuns columns cells (r ∷ []) s m → MeasuresRuns columns cells rs m n → MeasuresRuns columns cells (r ∷ rs) s n
+  unfolding bytes_of_runs
+  more-runs r rs s m n h g = record {
+    tells = λ seed step f t. g.tells seed step (rewrite_run (rule_at columns cells seed step) f r) (h.tells seed step f t);
+    spread = record { rows = omega (arith, h.spread.rows, g.spread.rows); runs = omega (arith, h.spread.runs, g.spread.runs); bytes = omega (arith, h.spread.bytes, g.spread.bytes) };
+  }
 
--- the counts while the runs of a row are measured
-module _ (s m : Counts) (k : ℕ) (so : Spread (16385 * k) (counts_of s) (counts_of m)) (few : k < 1024) (text : List ℕ) (short : length text ≤ 16384) where
-  pub run_room : Room (1024 * 16385 + 1) s → Room (2 + length text) m
-  run_room h = record { rows = omega (arith, so.rows, h.rows); runs = omega (arith, so.runs, h.runs); bytes = omega (arith, so.bytes, h.bytes) }
+  module _ (rs rest : List Run) (r : Run) (is : rs ≡ r ∷ rest) (m n : Measured) (h : MeasuresRuns columns cells (r ∷ []) m n) where
+    pub runs_turn : (all : List Run) (s : Measured) → ((u : Measured) → MeasuresRuns columns cells rs m u → MeasuresRuns columns cells all s u) → (u : Measured) → MeasuresRuns columns cells rest n u → MeasuresRuns columns cells all s u
+    runs_turn all s so u g = so u (rw is (more-runs r rest m n u h g))
 
-  pub spread-more : (n : Counts) → Spread (1 + length text) (counts_of m) (counts_of n) → Spread (16385 * (k + 1)) (counts_of s) (counts_of n)
-  spread-more n h = record { rows = omega (arith, so.rows, h.rows); runs = omega (arith, so.runs, h.runs); bytes = omega (arith, so.bytes, h.bytes) }
+    pub runs_turn-room : Room (1 + runs_room rs) m.counts → Room (1 + runs_room rest) n.counts
+    unfolding bytes_of_runs
+    runs_turn-room w = let o = rw is at w in record { rows = omega (arith, o.rows, h.spread.rows); runs = omega (arith, o.runs, h.spread.runs); bytes = omega (arith, o.bytes, h.spread.bytes) }
 
-pub spread_line : (s m : Counts) (k : ℕ) → Spread (16385 * k) (counts_of s) (counts_of m) → k ≤ 1024 → Spread (1024 * 16385) (counts_of s) (counts_of m)
-spread_line s m k so few = record { rows = omega (arith, so.rows); runs = omega (arith, so.runs); bytes = omega (arith, so.bytes) }
+  -- after the last one
+  pub runs_whole : (all left given : List Run) (s m : Measured) → left ≡ [] → all ≡ given → ((u : Measured) → MeasuresRuns columns cells left m u → MeasuresRuns columns cells all s u) → MeasuresRuns columns cells given s m
+  runs_whole all left given s m none is so = rw (← is) (so m (rw none (no-runs m)))
+
+pub run_room : (rs rest : List Run) (r : Run) → rs ≡ r ∷ rest → (m : Counts) → Room (1 + runs_room rs) m → Room (2 + length r.text) m
+unfolding bytes_of_runs
+run_room rs rest r is m w = let o = rw is at w in record { rows = omega (arith, o.rows); runs = omega (arith, o.runs); bytes = omega (arith, o.bytes) }
+
+pub row_room : (ws rest : List Row) (w : Row) → ws ≡ w ∷ rest → (more : ℕ) (s : Counts) → Room (1 + rows_room ws + more) s → Room (1 + runs_room w.runs) s
+unfolding bytes_of_rows runs_of_rows
+row_room ws rest w is more s room = let o = rw is at room in record { rows = omega (arith, o.rows); runs = omega (arith, o.runs); bytes = omega (arith, o.bytes) }
 
 -- a turn of the loop over the rows
-module _ (columns : ℕ) (cells : ℕ → ℕ) (seed : ℕ) (step : ℕ → ℕ → ℕ) (f : Frame) (i : ℕ) (m : Measured) where
-  abbrev rule : Rule
-  rule = rule_at columns cells seed step
+module _ (columns : ℕ) (cells : ℕ → ℕ) where
+  no-rows : (m : Measured) → MeasuresRows columns cells [] m m
+  unfolding bytes_of_rows runs_of_rows
+  no-rows m = record { tells = λ seed step f t. t; spread = spread_none (counts_of m.counts) }
 
-  abbrev Rewritten : Measured → ℕ → Type 0
-  Rewritten n j = Tells n (fold (rewrite_row rule) (fresh rule []) (take j f.rows))
+  pub rows_whole : (all left given : List Row) (s m : Measured) → left ≡ [] → all ≡ given → ((u : Measured) → MeasuresRows columns cells left m u → MeasuresRows columns cells all s u) → MeasuresRows columns cells given s m
+  rows_whole all left given s m none is so = rw (← is) (so m (rw none (no-rows m)))
 
-  pub rows_more : Rewritten m i → i < length f.rows → (n p : Measured) → Measures columns cells (runs_in (Finished i) f) m n → ((k : Rule) (g : Frame) → Tells n g → Tells p (closed k true g)) → Rewritten p (i + 1)
-  rows_more so l n p h close =
-      let g : Frame = fold (rewrite_row rule) (fresh rule []) (take i f.rows) in
-      subst (Tells p) (sym (fold_more (rewrite_row rule) (fresh rule []) f.rows i no_row l)) (close rule (fold (rewrite_run rule) g (get_or f.rows i no_row).runs) (h seed step g so))
+  -- The next row is w: its runs are measured, and it is closed. After the last row there is room for some more.
+  module _ (ws rest : List Row) (w : Row) (is : ws ≡ w ∷ rest) (more : ℕ) (s : Measured) (room : Room (1 + rows_room ws + more) s.counts) where
+    module _ (m : Measured) (h : MeasuresRuns columns cells w.runs s m) where
+      pub closing_room : Room 1 m.counts
+      unfolding bytes_of_rows runs_of_rows
+      closing_room = let o = rw is at room in record { rows = omega (arith, o.rows, h.spread.rows); runs = omega (arith, o.runs, h.spread.runs); bytes = omega (arith, o.bytes, h.spread.bytes) }
 
-  pub rows_end : Rewritten m i → length f.rows ≤ i → (n : Measured) → Measures columns cells (runs_in Open f) m n → counts_of n.counts ≡ tally_of (rewrapped rule f)
-  unfolding rewrapped
-  rows_end so l n h = (h seed step (fold (rewrite_row rule) (fresh rule []) f.rows) (subst (λ ws. Tells m (fold (rewrite_row rule) (fresh rule []) ws)) (take_all i f.rows l) so)).counts
+      module _ (n : Measured) (tells : (k : Rule) (f : Frame) → Tells m f → Tells n (closed k true f)) (one : Spread 1 (counts_of m.counts) (counts_of n.counts)) where
+        pub rows_turn-room : Room (1 + rows_room rest + more) n.counts
+        unfolding bytes_of_rows runs_of_rows
+        rows_turn-room = let o = rw is at room in record { rows = omega (arith, o.rows, h.spread.rows, one.rows); runs = omega (arith, o.runs, h.spread.runs, one.runs); bytes = omega (arith, o.bytes, h.spread.bytes, one.bytes) }
+
+        more-rows : (u : Measured) → MeasuresRows columns cells rest n u → MeasuresRows columns cells (w ∷ rest) s u
+        unfolding bytes_of_rows runs_of_rows
+        more-rows u g = record {
+          tells = λ seed step f t. g.tells seed step (rewrite_row (rule_at columns cells seed step) f w) (tells (rule_at columns cells seed step) (fold (rewrite_run (rule_at columns cells seed step)) f w.runs) (h.tells seed step f t));
+          spread = record { rows = omega (arith, h.spread.rows, one.rows, g.spread.rows); runs = omega (arith, h.spread.runs, one.runs, g.spread.runs); bytes = omega (arith, h.spread.bytes, one.bytes, g.spread.bytes) };
+        }
+
+        pub rows_turn : (all : List Row) (start : Measured) → ((u : Measured) → MeasuresRows columns cells ws s u → MeasuresRows columns cells all start u) → (u : Measured) → MeasuresRows columns cells rest n u → MeasuresRows columns cells all start u
+        rows_turn all start so u g = so u (rw is (more-rows u g))
 
 pub fresh-tally : (k : Rule) → record { rows = 0; runs = 0; bytes = 0; begun = false; text = false; width = 0 } ≡ tally_of (fresh k [])
 unfolding bytes_of_rows bytes_of_runs runs_of_rows
 fresh-tally k = refl
 
--- the counts while rows are measured, at most 256 of them
-module _ (k : Rule) (s m : Measured) (i : ℕ) (start : Tells s (fresh k [])) (so : Spread ((1024 * 16385 + 1) * i) (counts_of s.counts) (counts_of m.counts)) where
-  none : counts_of s.counts ≡ record { rows = 0; runs = 0; bytes = 0; begun = false; text = false; width = 0 }
-  none = start.counts ∙ sym (fresh-tally k)
+-- before the first row: a store keeps within its limits
+pub start_room : {R : Type 0} (d : Draft R) (ws : List Row) (s : Measured) → ws ≡ (frame_of d).rows → ((k : Rule) → Tells s (fresh k [])) → Room (1 + rows_room ws + runs_room (frame_of d).runs) s.counts
+start_room d ws s is start =
+    let k = counting 0 (λ c. 0) in
+    let none = (start k).counts ∙ sym (fresh-tally k) in
+    let u = d.store in
+    let rows = ap length is ∙ rows-count u in
+    let runs = ap runs_of_rows is in
+    let bytes = ap bytes_of_rows is in
+    record {
+      rows = omega (arith, ap (λ t. t.rows) none, rows, runs, bytes, runs-held u, bytes-held u, u.limits);
+      runs = omega (arith, ap (λ t. t.runs) none, rows, runs, bytes, runs-held u, bytes-held u, u.limits);
+      bytes = omega (arith, ap (λ t. t.bytes) none, rows, runs, bytes, runs-held u, bytes-held u, u.limits);
+    }
 
-  pub row_room : i ≤ 256 → Room (1024 * 16385 + 1) m.counts
-  row_room few = record { rows = omega (arith, so.rows, ap (λ t. t.rows) none); runs = omega (arith, so.runs, ap (λ t. t.runs) none); bytes = omega (arith, so.bytes, ap (λ t. t.bytes) none) }
+-- after the last row, the open one
+module _ (ws : List Row) (none : ws ≡ []) (rs given : List Run) (is : given ≡ rs) (s : Counts) (room : Room (1 + rows_room ws + runs_room rs) s) where
+  pub open_room : Room (1 + runs_room given) s
+  unfolding bytes_of_rows runs_of_rows
+  open_room = let o = rw none at room in rw is (record { rows = omega (arith, o.rows); runs = omega (arith, o.runs); bytes = omega (arith, o.bytes) })
 
-  module _ (n : Measured) (line : Spread (1024 * 16385) (counts_of m.counts) (counts_of n.counts)) where
-    pub line-room : i ≤ 256 → Room 1 n.counts
-    line-room few = record { rows = omega (arith, so.rows, line.rows, ap (λ t. t.rows) none); runs = omega (arith, so.runs, line.runs, ap (λ t. t.runs) none); bytes = omega (arith, so.bytes, line.bytes, ap (λ t. t.bytes) none) }
+  pub last_room : (m : Counts) → Spread (runs_room given) (counts_of s) (counts_of m) → Room 1 m
+  last_room m h = let w = open_room in record { rows = omega (arith, w.rows, h.rows); runs = omega (arith, w.runs, h.runs); bytes = omega (arith, w.bytes, h.bytes) }
 
-    pub rows-spread : (p : Measured) → Spread 1 (counts_of n.counts) (counts_of p.counts) → Spread ((1024 * 16385 + 1) * (i + 1)) (counts_of s.counts) (counts_of p.counts)
-    rows-spread p close = record { rows = omega (arith, so.rows, line.rows, close.rows); runs = omega (arith, so.runs, line.runs, close.runs); bytes = omega (arith, so.bytes, line.bytes, close.bytes) }
+pub rewrap-counts : (columns : ℕ) (cells : ℕ → ℕ) (seed : ℕ) (step : ℕ → ℕ → ℕ) (f : Frame) (s m n : Measured) (given : List Run) → given ≡ f.runs → ((k : Rule) → Tells s (fresh k [])) → MeasuresRows columns cells f.rows s m → MeasuresRuns columns cells given m n → counts_of n.counts ≡ tally_of (rewrapped (rule_at columns cells seed step) f)
+unfolding rewrapped
+rewrap-counts columns cells seed step f s m n given is start rows runs =
+    let k = rule_at columns cells seed step in
+    let g : Frame = fold (rewrite_row k) (fresh k []) f.rows in
+    let t : Tells n (fold (rewrite_run k) g given) = runs.tells seed step g (rows.tells seed step (fresh k []) (start k)) in
+    t.counts ∙ ap (λ (rs : List Run). tally_of (fold (rewrite_run k) g rs)) is
 
 -- whether what was measured fits
 module _ (k : Rule) (f : Frame) (end : Tally) (bare fit : Bool) (is : end ≡ tally_of (rewrapped k f)) (same : bare ≡ is_plain f.style) (told : fit ≡ tally_fits bare end) where

@@ -26,56 +26,52 @@ module _ (k : Rule) where
       let g : Frame = rewrite_row k f w in
       grows-join (tally_of f) (tally_of g) (tally_of (fold (rewrite_row k) g ws)) (grows-row f w) (grows-rows g ws)
 
-  -- a turn of the loop over the runs
-  module _ (rs : List Run) (i : ℕ) (f all : Frame) (so : fold (rewrite_run k) f (drop i rs) ≡ all) where
-    pub runs-end : length rs ≤ i → f ≡ all
-    runs-end l = sym (ap (fold (rewrite_run k) f) (drop_all i rs l)) ∙ so
+  -- a turn of the loop over the runs: the next is r
+  module _ (rs rest : List Run) (r : Run) (is : rs ≡ r ∷ rest) (f all : Frame) (so : fold (rewrite_run k) f rs ≡ all) where
+    next : fold (rewrite_run k) (rewrite_run k f r) rest ≡ all
+    next = sym (ap (fold (rewrite_run k) f) is) ∙ so
 
-    module _ (l : i < length rs) (text : List ℕ) (style : StyleSheet) (p : text ≡ (get_or rs i no_run).text) (q : style ≡ (get_or rs i no_run).style) where
-      next : fold (rewrite_run k) (written k style text f) (drop (i + 1) rs) ≡ all
-      next = (λ j. fold (rewrite_run k) (written k (q j) (p j) f) (drop (i + 1) rs)) ∙ sym (ap (fold (rewrite_run k) f) (drop_more rs i no_run l)) ∙ so
+    pub run-within : Within (tally_of all) → Within (tally_of (rewrite_run k f r))
+    run-within w = within-grows (tally_of (rewrite_run k f r)) (tally_of all) (subst (λ g. Grows (tally_of (rewrite_run k f r)) (tally_of g)) next (grows-runs (rewrite_run k f r) rest)) w
 
-      pub run-within : Within (tally_of all) → Within (tally_of (written k style text f))
-      run-within w = within-grows (tally_of (written k style text f)) (tally_of all) (subst (λ g. Grows (tally_of (written k style text f)) (tally_of g)) next (grows-runs (written k style text f) (drop (i + 1) rs))) w
-
-      pub run_step : (g : Frame) → g ≡ written k style text f → fold (rewrite_run k) g (drop (i + 1) rs) ≡ all
-      run_step g is = ap (λ h. fold (rewrite_run k) h (drop (i + 1) rs)) is ∙ next
+    pub run_step : (g : Frame) → g ≡ rewrite_run k f r → fold (rewrite_run k) g rest ≡ all
+    run_step g e = ap (λ h. fold (rewrite_run k) h rest) e ∙ next
 
   -- a turn of the loop over the rows of the frame o
-  module _ (o : Frame) (i : ℕ) (f : Frame) (so : fold (rewrite_row k) f (drop i o.rows) ≡ fold (rewrite_row k) (fresh k []) o.rows) (room : Within (tally_of (rewrapped k o))) where
-    abbrev row : Row
-    row = get_or o.rows i no_row
-
-    all-within : Within (tally_of (fold (rewrite_row k) f (drop i o.rows)))
+  module _ (o : Frame) (ws : List Row) (f : Frame) (so : fold (rewrite_row k) f ws ≡ fold (rewrite_row k) (fresh k []) o.rows) (room : Within (tally_of (rewrapped k o))) where
+    all-within : Within (tally_of (fold (rewrite_row k) f ws))
     unfolding rewrapped
     all-within =
         let all : Frame = fold (rewrite_row k) (fresh k []) o.rows in
         subst (λ g. Within (tally_of g)) (sym so) (within-grows (tally_of all) (tally_of (fold (rewrite_run k) all o.runs)) (grows-runs all o.runs) room)
 
-    rows_left : length o.rows ≤ i → f ≡ fold (rewrite_row k) (fresh k []) o.rows
-    rows_left l = sym (ap (fold (rewrite_row k) f) (drop_all i o.rows l)) ∙ so
+    -- after the last row, the open one
+    module _ (none : ws ≡ []) (given : List Run) (is : given ≡ o.runs) where
+      rows_done : f ≡ fold (rewrite_row k) (fresh k []) o.rows
+      rows_done = sym (ap (fold (rewrite_row k) f) none) ∙ so
 
-    pub rewrap-end : length o.rows ≤ i → (g : Frame) → g ≡ fold (rewrite_run k) f o.runs → styled o.style g ≡ rewrapped k o
-    unfolding rewrapped
-    rewrap-end l g is = ap (styled o.style) (is ∙ ap (λ h. fold (rewrite_run k) h o.runs) (rows_left l))
+      pub rewrap-end : (g : Frame) → g ≡ fold (rewrite_run k) f given → styled o.style g ≡ rewrapped k o
+      unfolding rewrapped
+      rewrap-end g e = ap (styled o.style) (e ∙ (λ i. fold (rewrite_run k) (rows_done i) (is i)))
 
-    pub open-within : length o.rows ≤ i → Within (tally_of (fold (rewrite_run k) f o.runs))
-    unfolding rewrapped
-    open-within l = subst (λ g. Within (tally_of (fold (rewrite_run k) g o.runs))) (sym (rows_left l)) room
+      pub open-within : Within (tally_of (fold (rewrite_run k) f given))
+      unfolding rewrapped
+      open-within = subst (λ g. Within (tally_of g)) (sym (λ i. fold (rewrite_run k) (rows_done i) (is i))) room
 
-    module _ (l : i < length o.rows) where
-      next_row : fold (rewrite_row k) f (drop i o.rows) ≡ fold (rewrite_row k) (rewrite_row k f row) (drop (i + 1) o.rows)
-      next_row = ap (fold (rewrite_row k) f) (drop_more o.rows i no_row l)
+    -- the next row is w
+    module _ (rest : List Row) (w : Row) (is : ws ≡ w ∷ rest) where
+      next_row : fold (rewrite_row k) f ws ≡ fold (rewrite_row k) (rewrite_row k f w) rest
+      next_row = ap (fold (rewrite_row k) f) is
 
-      pub row_within : Within (tally_of (rewrite_row k f row))
+      pub row_within : Within (tally_of (rewrite_row k f w))
       row_within =
-          let g : Frame = rewrite_row k f row in
-          within-grows (tally_of g) (tally_of (fold (rewrite_row k) g (drop (i + 1) o.rows))) (grows-rows g (drop (i + 1) o.rows)) (subst (λ h. Within (tally_of h)) next_row all-within)
+          let g : Frame = rewrite_row k f w in
+          within-grows (tally_of g) (tally_of (fold (rewrite_row k) g rest)) (grows-rows g rest) (subst (λ h. Within (tally_of h)) next_row all-within)
 
-      pub line-within : Within (tally_of (fold (rewrite_run k) f row.runs))
+      pub line-within : Within (tally_of (fold (rewrite_run k) f w.runs))
       line-within =
-          let g : Frame = fold (rewrite_run k) f row.runs in
+          let g : Frame = fold (rewrite_run k) f w.runs in
           within-grows (tally_of g) (tally_of (closed k true g)) (grows-closed k true g) row_within
 
-      pub row_step : (g : Frame) → g ≡ rewrite_row k f row → fold (rewrite_row k) g (drop (i + 1) o.rows) ≡ fold (rewrite_row k) (fresh k []) o.rows
-      row_step g is = ap (λ h. fold (rewrite_row k) h (drop (i + 1) o.rows)) is ∙ sym next_row ∙ so
+      pub row_step : (g : Frame) → g ≡ rewrite_row k f w → fold (rewrite_row k) g rest ≡ fold (rewrite_row k) (fresh k []) o.rows
+      row_step g e = ap (λ h. fold (rewrite_row k) h rest) e ∙ sym next_row ∙ so

@@ -6,6 +6,8 @@ use Rattle.layout.specs.Frames.{Frame, Rule}
 use Rattle.layout.specs.Writing.{some, joined_runs, fed_piece}
 use Rattle.store.specs.Piles.{Pile}
 use Rattle.store.specs.Stores.{pile_of}
+use Rattle.width.specs.declared.hash.RowHash.{Ghosts as RowHash}
+use Rattle.width.specs.declared.rule.WidthRule.{Ghosts as WidthRule}
 use Rattle.frame.specs.declared.draft.Draft.{Draft}
 
 abbrev pub frame_at : Pile → StyleSheet → ℕ → ℕ → Frame
@@ -16,6 +18,10 @@ frame_of d = frame_at (pile_of d.store) d.style d.width d.hash
 
 abbrev pub rule_at : ℕ → (ℕ → ℕ) → ℕ → (ℕ → ℕ → ℕ) → Rule
 rule_at columns cells seed step = record { columns = columns; cells = cells; seed = seed; step = step }
+
+-- the same, by the ghost members of a width rule and a row hash
+abbrev pub rule_by : {C R : Type 0} → ℕ → WidthRule C → RowHash R → Rule
+rule_by columns c r = rule_at columns c.cells r.seed r.step
 
 -- what feeding and closing need of a rule
 abbrev pub hashing : ℕ → (ℕ → ℕ → ℕ) → Rule

@@ -11,14 +11,16 @@ use Rattle.layout.specs.Writing.{written}
 use Rattle.frame.specs.declared.error.FrameError.{FrameError}
 use Rattle.frame.specs.declared.error.FrameError.TheVariants.{Text, TooLarge, BadOffset}
 use Rattle.frame.specs.declared.state.FrameState.{FrameState}
-use Rattle.frame.specs.Drafts.{frame_of, rule_at}
+use Rattle.width.specs.declared.hash.RowHash.{Ghosts as RowHash}
+use Rattle.width.specs.declared.rule.WidthRule.{Ghosts as WidthRule}
+use Rattle.frame.specs.Drafts.{frame_of, rule_by}
 use Rattle.frame.specs.Marks.{mark_at}
 
 abbrev pub sheet_of : {C R : Type 0} → FrameState C R → Frame
 sheet_of s = frame_of s.draft
 
-abbrev pub rule_of : {C R : Type 0} → FrameState C R → (ℕ → ℕ) → ℕ → (ℕ → ℕ → ℕ) → Rule
-rule_of s cells seed step = rule_at s.terminal_size.width cells seed step
+abbrev pub rule_of : {C R : Type 0} → FrameState C R → WidthRule C → RowHash R → Rule
+rule_of s c r = rule_by s.terminal_size.width c r
 
 -- a text is written: it is short enough, it is taken, and the frame that it makes fits
 pub record Writes (k : Rule) (style : StyleSheet) (text : List ℕ) (f g : Frame) : Type 0 where

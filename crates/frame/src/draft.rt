@@ -8,7 +8,7 @@ ghost use Rattle.layout.specs.Writing.{some, closed, carried, folding, newline, 
 ghost use Rattle.store.specs.Piles.{runs_of};
 ghost use Rattle.store.specs.Stores.{pile_of};
 ghost use Rattle.style.specs.Styles.{is_plain};
-ghost use Rattle.frame.specs.Drafts.{frame_of, joined_frame, added_frame, carried_to, hashing, rule_at};
+ghost use Rattle.frame.specs.Drafts.{frame_of, joined_frame, added_frame, carried_to, hashing, rule_by};
 
 use ansi::{AnsiAware, Piece};
 use layout::{feed_piece, folds, open_hash};
@@ -35,10 +35,7 @@ impl<R: RowHash> Draft<R> {
     {
         self.hash = feed_piece::<R>(self.hash, text.as_bytes(), self.style);
         self.width = width;
-        match self.store.put(text) {
-            Ok(()) => {}
-            Err(_) => unreachable(),
-        }
+        self.store.put(text).unwrap();
     }
 
     // The current run joins the open row if it has bytes or a style.
@@ -47,10 +44,7 @@ impl<R: RowHash> Draft<R> {
         ensures { frame_of self.new ≡ joined_frame (frame_of self.old) }
     {
         if self.store.has_text() || !self.style.is_empty() {
-            match self.store.end_run(self.style) {
-                Ok(()) => {}
-                Err(_) => unreachable(),
-            }
+            self.store.end_run(self.style).unwrap();
         }
     }
 
@@ -59,10 +53,7 @@ impl<R: RowHash> Draft<R> {
         requires { length (frame_of self.old).rows < 256 }
         ensures { frame_of self.new ≡ added_frame (frame_of self.old) }
     {
-        match self.store.end_row(self.width, self.hash) {
-            Ok(()) => {}
-            Err(_) => unreachable(),
-        }
+        self.store.end_row(self.width, self.hash).unwrap();
     }
 
     // The open row is closed; without runs it is added only if asked for.
@@ -92,8 +83,8 @@ impl<R: RowHash> Draft<R> {
 
     // A character that is no newline goes to the row that has room for it.
     fn put_char<C: WidthRule>(&mut self, columns: u16, c: char)
-        requires { Within (tally_of (carried (rule_at columns C.WidthRule.cells R.RowHash.seed R.RowHash.step) (encode c) (C.WidthRule.cells c) (folding (rule_at columns C.WidthRule.cells R.RowHash.seed R.RowHash.step) c (frame_of self.old)))) }
-        ensures { frame_of self.new ≡ carried (rule_at columns C.WidthRule.cells R.RowHash.seed R.RowHash.step) (encode c) (C.WidthRule.cells c) (folding (rule_at columns C.WidthRule.cells R.RowHash.seed R.RowHash.step) c (frame_of self.old)) }
+        requires { Within (tally_of (carried (rule_by columns C.WidthRule R.RowHash) (encode c) (C.WidthRule.cells c) (folding (rule_by columns C.WidthRule R.RowHash) c (frame_of self.old)))) }
+        ensures { frame_of self.new ≡ carried (rule_by columns C.WidthRule R.RowHash) (encode c) (C.WidthRule.cells c) (folding (rule_by columns C.WidthRule R.RowHash) c (frame_of self.old)) }
     {
         let cells = C::width(c) as u16;
         let mut buffer = [0; 4];
@@ -120,8 +111,8 @@ impl<R: RowHash> Draft<R> {
     }
 
     fn put<C: WidthRule>(&mut self, columns: u16, piece: Piece)
-        requires { Within (tally_of (put (rule_at columns C.WidthRule.cells R.RowHash.seed R.RowHash.step) (frame_of self.old) (part piece))) }
-        ensures { frame_of self.new ≡ put (rule_at columns C.WidthRule.cells R.RowHash.seed R.RowHash.step) (frame_of self.old) (part piece.entry) }
+        requires { Within (tally_of (put (rule_by columns C.WidthRule R.RowHash) (frame_of self.old) (part piece))) }
+        ensures { frame_of self.new ≡ put (rule_by columns C.WidthRule R.RowHash) (frame_of self.old) (part piece.entry) }
     {
         match piece {
             Piece::Escape { text, .. } => self.put_escape(text),
@@ -131,8 +122,8 @@ impl<R: RowHash> Draft<R> {
     }
 
     fn put_all<C: WidthRule>(&mut self, columns: u16, text: &str)
-        requires { Within (tally_of (put_all (rule_at columns C.WidthRule.cells R.RowHash.seed R.RowHash.step) (frame_of self.old) (pieces text.now))) }
-        ensures { frame_of self.new ≡ put_all (rule_at columns C.WidthRule.cells R.RowHash.seed R.RowHash.step) (frame_of self.old) (pieces text.now) }
+        requires { Within (tally_of (put_all (rule_by columns C.WidthRule R.RowHash) (frame_of self.old) (pieces text.now))) }
+        ensures { frame_of self.new ≡ put_all (rule_by columns C.WidthRule R.RowHash) (frame_of self.old) (pieces text.now) }
     {
         for piece in text.ansi_aware_chars() {
             self.put::<C>(columns, piece);
@@ -144,20 +135,16 @@ impl<R: RowHash> Draft<R> {
         requires { Within (tally_of (ended (frame_of self.old))) }
         ensures { frame_of self.new ≡ ended (frame_of self.old) }
     {
-        if !self.store.has_text() {
-            return;
+        if self.store.has_text() {
+            self.store.end_run(self.style).unwrap();
+            self.style = StyleSheet::empty();
         }
-        match self.store.end_run(self.style) {
-            Ok(()) => {}
-            Err(_) => unreachable(),
-        }
-        self.style = StyleSheet::empty();
     }
 
     // A text is written under a style.
     pub(crate) fn write<C: WidthRule>(&mut self, columns: u16, text: &str, style: StyleSheet)
-        requires { Within (tally_of (written (rule_at columns C.WidthRule.cells R.RowHash.seed R.RowHash.step) style text.now (frame_of self.old))) }
-        ensures { frame_of self.new ≡ written (rule_at columns C.WidthRule.cells R.RowHash.seed R.RowHash.step) style text.now (frame_of self.old) }
+        requires { Within (tally_of (written (rule_by columns C.WidthRule R.RowHash) style text.now (frame_of self.old))) }
+        ensures { frame_of self.new ≡ written (rule_by columns C.WidthRule R.RowHash) style text.now (frame_of self.old) }
     {
         self.style = style;
         self.put_all::<C>(columns, text);

@@ -11,8 +11,5 @@ pub fn worked_examples() -> Option<Refusal>
     ensures value { result ≡ Some (NoColour 0) }
     ensures law { Worked }
 {
-    match check_text(b"\x1B") {
-        Ok(_) => None,
-        Err(refusal) => Some(refusal),
-    }
+    check_text(b"\x1B").err()
 }

@@ -1,24 +1,18 @@
 // Wrapping a draft anew, for other columns.
-ghost use Rattle.std.specs.Prelude.{◌≡◌, ◌+◌, ◌*◌, ◌<◌, ◌≤◌, true, [], ◌∷◌, length, fold, MatchOption, slice_index_or};
+ghost use Rattle.std.specs.Prelude.{◌≡◌, ◌+◌, true, [], ◌∷◌, length, fold};
 ghost use Rattle.layout.specs.Frames.{Frame, Rule};
 ghost use Rattle.layout.specs.Tally.{Within, tally_of};
 ghost use Rattle.layout.specs.Writing.{run, closed, fresh, rewrite_run, rewrapped};
-ghost use Rattle.store.specs.Piles.{no_run};
+ghost use Rattle.store.specs.Walks.{runs_left};
 ghost use Rattle.frame.specs.Counts.{counts_of, Room};
-ghost use Rattle.frame.specs.Drafts.{frame_of, rule_at};
-ghost use Rattle.frame.specs.Rewraps.{runs_in, Tells, Measures, Spread};
+ghost use Rattle.frame.specs.Drafts.{frame_of, rule_by};
+ghost use Rattle.frame.specs.Rewraps.{Tells, MeasuresRuns, Spread, runs_room};
 
 use crate::draft::Draft;
 use crate::tally::{Counts, measure};
+use store::Runs;
 use style::StyleSheet;
 use width::{RowHash, WidthRule};
-
-// A row of a draft.
-#[derive(Clone, Copy)]
-pub(crate) enum Line {
-    Finished(usize),
-    Open,
-}
 
 // The counts of a frame, and whether its style is plain.
 #[derive(Clone, Copy)]
@@ -47,8 +41,7 @@ impl Measured {
     // One run more.
     fn write<C: WidthRule>(self, columns: u16, text: &str, style: StyleSheet) -> Measured
         requires { Room (2 + length text.now) self.counts }
-        ensures value { Measures columns C.WidthRule.cells (run text.now style ∷ []) self result }
-        ensures spread { Spread (1 + length text.now) (counts_of self.counts) (counts_of result.counts) }
+        ensures { MeasuresRuns columns C.WidthRule.cells (run text.now style ∷ []) self result }
     {
         let bare = style.is_empty();
         let end = measure::<C>(self.counts, columns, bare, text);
@@ -56,6 +49,18 @@ impl Measured {
             counts: end.end_run(),
             bare: end.text || bare,
         }
+    }
+
+    // More runs.
+    fn write_runs<C: WidthRule>(self, columns: u16, runs: Runs) -> Measured
+        requires { Room (1 + runs_room (runs_left runs)) self.counts }
+        ensures { MeasuresRuns columns C.WidthRule.cells (runs_left runs.entry) self result }
+    {
+        let mut end = self;
+        for (text, style) in runs {
+            end = end.write::<C>(columns, text, style);
+        }
+        end
     }
 
     // The open row closed.
@@ -72,68 +77,39 @@ impl Measured {
 }
 
 impl<R: RowHash> Draft<R> {
-    // A run of a row.
-    fn line_run(&self, line: Line, k: usize) -> Option<(&str, StyleSheet)>
-        ensures { MatchOption result (length (runs_in line (frame_of self.now)) ≤ k) (λ x. (k < length (runs_in line (frame_of self.now))) × (x.0.now ≡ (slice_index_or (runs_in line (frame_of self.now)) k no_run).text) × (x.1 ≡ (slice_index_or (runs_in line (frame_of self.now)) k no_run).style)) }
-    {
-        match line {
-            Line::Finished(i) => self.store.run(i, k),
-            Line::Open => self.store.open_run(k),
-        }
-    }
-
-    // The runs of a row more: at most 1,024, of at most 16,384 bytes each.
-    fn measure_line<C: WidthRule>(&self, start: Measured, columns: u16, line: Line) -> Measured
-        requires { Room (1024 * 16385 + 1) start.counts }
-        ensures value { Measures columns C.WidthRule.cells (runs_in line (frame_of self.now)) start result }
-        ensures spread { Spread (1024 * 16385) (counts_of start.counts) (counts_of result.counts) }
-    {
-        let mut end = start;
-        let mut k = 0;
-        while let Some((text, style)) = self.line_run(line, k) {
-            end = end.write::<C>(columns, text, style);
-            k += 1;
-        }
-        end
-    }
-
     // The counts of the draft wrapped anew.
     pub(crate) fn measure_rewrap<C: WidthRule>(&self, columns: u16) -> Counts
-        ensures value { counts_of result ≡ tally_of (rewrapped (rule_at columns C.WidthRule.cells R.RowHash.seed R.RowHash.step) (frame_of self.now)) }
+        ensures value { counts_of result ≡ tally_of (rewrapped (rule_by columns C.WidthRule R.RowHash) (frame_of self.now)) }
         ensures room { Room 1 result }
     {
         let mut end = Measured::fresh();
-        for i in 0..self.store.rows_len() {
-            end = self
-                .measure_line::<C>(end, columns, Line::Finished(i))
-                .close_row();
+        for row in self.store.rows() {
+            end = end.write_runs::<C>(columns, row.runs).close_row();
         }
-        self.measure_line::<C>(end, columns, Line::Open).counts
+        end.write_runs::<C>(columns, self.store.open_row()).counts
     }
 
-    // The runs of another draft's row are written.
-    fn rewrite_line<C: WidthRule>(&mut self, columns: u16, from: &Draft<R>, line: Line)
-        requires { Within (tally_of (fold (rewrite_run (rule_at columns C.WidthRule.cells R.RowHash.seed R.RowHash.step)) (frame_of self.old) (runs_in line (frame_of from.now)))) }
-        ensures { frame_of self.new ≡ fold (rewrite_run (rule_at columns C.WidthRule.cells R.RowHash.seed R.RowHash.step)) (frame_of self.old) (runs_in line (frame_of from.now)) }
+    // More runs are written.
+    fn write_runs<C: WidthRule>(&mut self, columns: u16, runs: Runs)
+        requires { Within (tally_of (fold (rewrite_run (rule_by columns C.WidthRule R.RowHash)) (frame_of self.old) (runs_left runs))) }
+        ensures { frame_of self.new ≡ fold (rewrite_run (rule_by columns C.WidthRule R.RowHash)) (frame_of self.old) (runs_left runs.entry) }
     {
-        let mut k = 0;
-        while let Some((text, style)) = from.line_run(line, k) {
+        for (text, style) in runs {
             self.write::<C>(columns, text, style);
-            k += 1;
         }
     }
 
     // The draft becomes another one, wrapped anew.
     pub(crate) fn rewrite<C: WidthRule>(&mut self, columns: u16, from: &Draft<R>)
-        requires { Within (tally_of (rewrapped (rule_at columns C.WidthRule.cells R.RowHash.seed R.RowHash.step) (frame_of from.now))) }
-        ensures { frame_of self.new ≡ rewrapped (rule_at columns C.WidthRule.cells R.RowHash.seed R.RowHash.step) (frame_of from.now) }
+        requires { Within (tally_of (rewrapped (rule_by columns C.WidthRule R.RowHash) (frame_of from.now))) }
+        ensures { frame_of self.new ≡ rewrapped (rule_by columns C.WidthRule R.RowHash) (frame_of from.now) }
     {
         self.clear();
-        for i in 0..from.store.rows_len() {
-            self.rewrite_line::<C>(columns, from, Line::Finished(i));
+        for row in from.store.rows() {
+            self.write_runs::<C>(columns, row.runs);
             self.close_row(true);
         }
-        self.rewrite_line::<C>(columns, from, Line::Open);
+        self.write_runs::<C>(columns, from.store.open_row());
         self.style = from.style;
     }
 }

@@ -1,6 +1,7 @@
 // Why a renderer refuses a call.
 ghost use Rattle.std.specs.Prelude.{◌≡◌};
 ghost use Rattle.history.specs.Answers.{number_of};
+ghost use Rattle.history.specs.declared.error.RenderError.TheVariants.{Frame};
 
 use drawing::DrawError;
 use frame::FrameError;
@@ -25,5 +26,13 @@ impl RenderError {
             RenderError::OneColumn => 6,
             RenderError::Draw(_) => 7,
         }
+    }
+}
+
+impl From<FrameError> for RenderError {
+    ghost from_gives = { λ e r. r ≡ Frame e };
+
+    fn from(error: FrameError) -> RenderError {
+        RenderError::Frame(error)
     }
 }

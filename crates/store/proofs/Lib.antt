@@ -4,3 +4,4 @@ pub mod Found
 pub mod Grow
 pub mod Joining
 pub mod Sizes
+pub mod Walking

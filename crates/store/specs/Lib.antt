@@ -1,3 +1,4 @@
 pub mod Piles
 pub mod Spans
 pub mod Stores
+pub mod Walks

@@ -50,6 +50,10 @@ runs_of_row i p = (slice_index_or p.rows i no_row).runs
 abbrev pub Finds : List Run → ℕ → Option (Bor (List ℕ) × StyleSheet) → Type 0
 Finds rs k r = MatchOption r (length rs ≤ k) (λ x. (k < length rs) × (x.0.now ≡ (slice_index_or rs k no_run).text) × (x.1 ≡ (slice_index_or rs k no_run).style))
 
+-- the texts of these runs, joined
+abbrev pub joined : List Run → List ℕ
+joined rs = flat_map (λ (r : Run). r.text) rs
+
 -- the texts of row i's runs, joined
 abbrev pub text_of_row : ℕ → Pile → List ℕ
-text_of_row i p = flat_map (λ (r : Run). r.text) (runs_of_row i p)
+text_of_row i p = joined (runs_of_row i p)

@@ -2,7 +2,11 @@
 
 #![tactic(auto)]
 
+mod rows;
+mod runs;
 mod spans;
 mod store;
 
+pub use rows::{Row, Rows};
+pub use runs::Runs;
 pub use store::{Full, RowInfo, Store};

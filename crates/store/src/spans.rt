@@ -1,4 +1,5 @@
-//! Parts of a store's lists.
+//! Parts of a store's lists, by indices: with a list of its own a run or a row would have to allocate, and all memory is
+//! reserved at opening.
 
 use style::StyleSheet;
 

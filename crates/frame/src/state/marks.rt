@@ -11,7 +11,7 @@ use width::{RowHash, WidthRule};
 impl<C: WidthRule, R: RowHash> FrameState<C, R> {
     /// Marks where the cursor is to stand, an offset behind the end of the open row. Refused, an older mark stays.
     pub fn mark_cursor_position(&mut self, offset: isize) -> Result<Position, FrameError>
-        ensures { MatchResult result (Marks (rule_of self.old C.WidthRule.cells R.RowHash.seed R.RowHash.step) offset self.old self.new) (λ e. BadMark offset e × (self.new ≡ self.old)) }
+        ensures { MatchResult result (Marks (rule_of self.old C.WidthRule R.RowHash) offset self.old self.new) (λ e. BadMark offset e × (self.new ≡ self.old)) }
     {
         let Ok(offset) = u16::try_from(offset) else {
             return Err(FrameError::BadOffset);

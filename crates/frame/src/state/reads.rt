@@ -2,11 +2,12 @@
 ghost use Rattle.std.specs.Prelude.{◌≡◌, ◌<◌, ◌≤◌, length, get_or, Decides, MatchOption, slice_index_or};
 ghost use Rattle.store.specs.Piles.{no_row, no_run, text_of_row};
 ghost use Rattle.store.specs.Stores.{info_of, pile_of};
+ghost use Rattle.store.specs.Walks.{rows_left};
 ghost use Rattle.frame.specs.States.{sheet_of, widest};
 
 use super::FrameState;
 use size::{Dimension, Position, TerminalSize};
-use store::RowInfo;
+use store::{RowInfo, Rows};
 use style::StyleSheet;
 use width::{RowHash, WidthRule};
 
@@ -15,16 +16,14 @@ impl<C: WidthRule, R: RowHash> FrameState<C, R> {
     pub fn terminal_size(&self) -> TerminalSize
         ensures { result ≡ self.now.terminal_size }
     {
-        let size = self.terminal_size;
-        size
+        self.terminal_size
     }
 
     /// The last mark.
     pub fn expected_cursor_position(&self) -> Option<Position>
         ensures { result ≡ self.now.expected_cursor_position }
     {
-        let mark = self.expected_cursor_position;
-        mark
+        self.expected_cursor_position
     }
 
     /// How many rows are finished.
@@ -32,8 +31,14 @@ impl<C: WidthRule, R: RowHash> FrameState<C, R> {
         ensures value { result ≡ length (sheet_of self.now).rows }
         ensures bound { result ≤ 256 }
     {
-        let rows = self.draft.store.rows_len();
-        rows
+        self.draft.store.rows_len()
+    }
+
+    /// The finished rows, one after another.
+    pub fn rows(&self) -> Rows<'_>
+        ensures { rows_left result ≡ (sheet_of self.now).rows }
+    {
+        self.draft.store.rows()
     }
 
     /// The number of runs, the width and the hash of a finished row.
@@ -69,12 +74,7 @@ impl<C: WidthRule, R: RowHash> FrameState<C, R> {
     pub fn frame_size(&self) -> Dimension
         ensures { (result.width ≡ widest (sheet_of self.now).rows) × (result.height ≡ length (sheet_of self.now).rows) }
     {
-        let mut width = 0;
-        for i in 0..self.rows_len() {
-            if let Some(row) = self.row(i) {
-                width = row.width.max(width);
-            }
-        }
+        let width = self.rows().fold(0, |widest, row| row.width.max(widest));
         Dimension::new(width, self.rows_len() as u16)
     }
 }

@@ -2,7 +2,7 @@
 ghost use Rattle.std.specs.Prelude.{◌≡◌, MatchResult};
 ghost use Rattle.layout.specs.Limits.{fits};
 ghost use Rattle.layout.specs.Writing.{rewrapped};
-ghost use Rattle.frame.specs.Drafts.{rule_at};
+ghost use Rattle.frame.specs.Drafts.{rule_by};
 ghost use Rattle.frame.specs.Rewraps.{Resizes, DeniesSize};
 ghost use Rattle.frame.specs.States.{sheet_of};
 
@@ -14,7 +14,7 @@ use width::{RowHash, WidthRule};
 impl<C: WidthRule, R: RowHash> FrameState<C, R> {
     /// Whether the frame keeps within the limits, wrapped anew at so many columns.
     pub fn fits_columns(&self, columns: u16) -> bool
-        ensures { result ≡ fits (rule_at columns C.WidthRule.cells R.RowHash.seed R.RowHash.step) (rewrapped (rule_at columns C.WidthRule.cells R.RowHash.seed R.RowHash.step) (sheet_of self.now)) }
+        ensures { result ≡ fits (rule_by columns C.WidthRule R.RowHash) (rewrapped (rule_by columns C.WidthRule R.RowHash) (sheet_of self.now)) }
     {
         let counts = self.draft.measure_rewrap::<C>(columns);
         counts.fits(self.draft.style.is_empty())
@@ -27,7 +27,7 @@ impl<C: WidthRule, R: RowHash> FrameState<C, R> {
         new_size: TerminalSize,
         spare: &mut FrameState<C, R>,
     ) -> Result<(), FrameError>
-        ensures { MatchResult result (λ _. Resizes (rule_at new_size.width C.WidthRule.cells R.RowHash.seed R.RowHash.step) new_size self.old self.new spare.old spare.new) (λ e. DeniesSize (rule_at new_size.width C.WidthRule.cells R.RowHash.seed R.RowHash.step) new_size self.old e × (self.new ≡ self.old) × (spare.new ≡ spare.old)) }
+        ensures { MatchResult result (λ _. Resizes (rule_by new_size.width C.WidthRule R.RowHash) new_size self.old self.new spare.old spare.new) (λ e. DeniesSize (rule_by new_size.width C.WidthRule R.RowHash) new_size self.old e × (self.new ≡ self.old) × (spare.new ≡ spare.old)) }
     {
         if self.terminal_size == new_size {
             return Ok(());

@@ -4,7 +4,7 @@ ghost use Rattle.layout.specs.RowLaw.{RowsLaw, HashLaw, EqualWrites};
 ghost use Rattle.layout.specs.Tally.{tally_of};
 ghost use Rattle.layout.specs.Writing.{fresh, finished};
 ghost use Rattle.frame.specs.Counts.{counts_of};
-ghost use Rattle.frame.specs.Drafts.{rule_at};
+ghost use Rattle.frame.specs.Drafts.{rule_by};
 ghost use Rattle.frame.specs.States.{sheet_of, rule_of, Writes, Denies};
 
 use super::FrameState;
@@ -24,7 +24,7 @@ const MOST_TEXT: usize = 65_535;
 impl<C: WidthRule, R: RowHash> FrameState<C, R> {
     /// An empty frame, with memory for all that it may hold.
     pub fn new(heap: Global, terminal_size: TerminalSize) -> Result<FrameState<C, R>, AllocError>
-        ensures { IfOk result (λ s. (sheet_of s ≡ fresh (rule_at 0 C.WidthRule.cells R.RowHash.seed R.RowHash.step) []) × (s.terminal_size ≡ terminal_size) × (s.expected_cursor_position ≡ None)) }
+        ensures { IfOk result (λ s. (sheet_of s ≡ fresh (rule_by 0 C.WidthRule R.RowHash) []) × (s.terminal_size ≡ terminal_size) × (s.expected_cursor_position ≡ None)) }
     {
         let store = Store::open(heap)?;
         Ok(FrameState {
@@ -61,7 +61,7 @@ impl<C: WidthRule, R: RowHash> FrameState<C, R> {
 
     /// Writes a text under a style. Refused, the frame is as it was.
     pub fn write(&mut self, text: &[u8], style: StyleSheet) -> Result<(), FrameError>
-        ensures answer { MatchResult result (λ _. Writes (rule_of self.old C.WidthRule.cells R.RowHash.seed R.RowHash.step) style text.now (sheet_of self.old) (sheet_of self.new)) (λ e. Denies (rule_of self.old C.WidthRule.cells R.RowHash.seed R.RowHash.step) style text.now (sheet_of self.old) e × (self.new ≡ self.old)) }
+        ensures answer { MatchResult result (λ _. Writes (rule_of self.old C.WidthRule R.RowHash) style text.now (sheet_of self.old) (sheet_of self.new)) (λ e. Denies (rule_of self.old C.WidthRule R.RowHash) style text.now (sheet_of self.old) e × (self.new ≡ self.old)) }
         ensures size { self.new.terminal_size ≡ self.old.terminal_size }
         ensures mark { self.new.expected_cursor_position ≡ self.old.expected_cursor_position }
     {
@@ -81,7 +81,7 @@ impl<C: WidthRule, R: RowHash> FrameState<C, R> {
 
     /// Closes the open row. The law says where rows break and what their hashes are of.
     pub fn finish(&mut self)
-        ensures frame { sheet_of self.new ≡ finished (rule_of self.old C.WidthRule.cells R.RowHash.seed R.RowHash.step) (sheet_of self.old) }
+        ensures frame { sheet_of self.new ≡ finished (rule_of self.old C.WidthRule R.RowHash) (sheet_of self.old) }
         ensures size { self.new.terminal_size ≡ self.old.terminal_size }
         ensures mark { self.new.expected_cursor_position ≡ self.old.expected_cursor_position }
         ensures law { RowsLaw × HashLaw × EqualWrites }
@@ -91,7 +91,7 @@ impl<C: WidthRule, R: RowHash> FrameState<C, R> {
 
     /// Empties the frame, for a terminal of this size. A mark is lost.
     pub fn restart(&mut self, terminal_size: TerminalSize)
-        ensures frame { sheet_of self.new ≡ fresh (rule_of self.old C.WidthRule.cells R.RowHash.seed R.RowHash.step) [] }
+        ensures frame { sheet_of self.new ≡ fresh (rule_of self.old C.WidthRule R.RowHash) [] }
         ensures size { self.new.terminal_size ≡ terminal_size }
         ensures mark { self.new.expected_cursor_position ≡ None }
     {

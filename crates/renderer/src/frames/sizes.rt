@@ -4,7 +4,7 @@ ghost use Rattle.frame.specs.declared.error.FrameError.TheVariants.{TooLarge};
 ghost use Rattle.history.specs.Machines.{unsized};
 ghost use Rattle.history.specs.Sizing.{corrected, fits_size};
 ghost use Rattle.renderer.specs.Frames.{Resized, Started, Refreshed, Unfit};
-ghost use Rattle.renderer.specs.Rulings.{rules, sheet_from};
+ghost use Rattle.renderer.specs.Rulings.{rules_by, sheet_from};
 
 use super::Frames;
 use frame::{FrameError, FrameState};
@@ -16,7 +16,7 @@ use width::{RowHash, WidthRule};
 
 impl<C: WidthRule, R: RowHash> Frames<C, R> {
     pub(crate) fn open(heap: Global) -> Result<Frames<C, R>, AllocError>
-        ensures { IfOk result (λ f. sheet_from f.last ≡ unsized (rules C.WidthRule.cells R.RowHash.seed R.RowHash.step)) }
+        ensures { IfOk result (λ f. sheet_from f.last ≡ unsized (rules_by C.WidthRule R.RowHash)) }
     {
         let size = TerminalSize::default();
         let last = FrameState::new(heap, size)?;
@@ -34,12 +34,9 @@ impl<C: WidthRule, R: RowHash> Frames<C, R> {
 pub(crate) fn taken_size<T: Terminal>(terminal: &T) -> TerminalSize
     ensures { (result.width ≡ (T.Terminal.page terminal.now).width) × (result.height ≡ (T.Terminal.page terminal.now).height) }
 {
-    let Ok(answer) = terminal.get_size() else {
-        return TerminalSize::default();
-    };
-    match answer {
-        Some(size) => size,
-        None => TerminalSize::default(),
+    match terminal.get_size() {
+        Ok(Some(size)) => size,
+        _ => TerminalSize::default(),
     }
 }
 
@@ -59,7 +56,7 @@ pub(crate) fn correct(position: Position, size: TerminalSize) -> Position
 
 // Whether a frame has the size, or keeps within the limits wrapped anew for it.
 fn fits_size<C: WidthRule, R: RowHash>(frame: &FrameState<C, R>, size: TerminalSize) -> bool
-    ensures { result ≡ fits_size (rules C.WidthRule.cells R.RowHash.seed R.RowHash.step) size.width size.height (sheet_from frame.now) }
+    ensures { result ≡ fits_size (rules_by C.WidthRule R.RowHash) size.width size.height (sheet_from frame.now) }
 {
     frame.terminal_size() == size || frame.fits_columns(size.width())
 }
@@ -70,7 +67,7 @@ fn resize<C: WidthRule, R: RowHash>(
     size: TerminalSize,
     spare: &mut FrameState<C, R>,
 ) -> Result<(), FrameError>
-    ensures { MatchResult result (λ _. (fits_size (rules C.WidthRule.cells R.RowHash.seed R.RowHash.step) size.width size.height (sheet_from frame.old) ≡ true) × Resized (rules C.WidthRule.cells R.RowHash.seed R.RowHash.step) size.width size.height frame.old frame.new) (λ e. (fits_size (rules C.WidthRule.cells R.RowHash.seed R.RowHash.step) size.width size.height (sheet_from frame.old) ≡ false) × (e ≡ TooLarge) × (frame.new ≡ frame.old) × (spare.new ≡ spare.old)) }
+    ensures { MatchResult result (λ _. (fits_size (rules_by C.WidthRule R.RowHash) size.width size.height (sheet_from frame.old) ≡ true) × Resized (rules_by C.WidthRule R.RowHash) size.width size.height frame.old frame.new) (λ e. (fits_size (rules_by C.WidthRule R.RowHash) size.width size.height (sheet_from frame.old) ≡ false) × (e ≡ TooLarge) × (frame.new ≡ frame.old) × (spare.new ≡ spare.old)) }
 {
     frame.resize_if_needed(size, spare)
 }
@@ -81,33 +78,28 @@ fn fit<C: WidthRule, R: RowHash>(
     size: TerminalSize,
     spare: &mut FrameState<C, R>,
 )
-    requires { fits_size (rules C.WidthRule.cells R.RowHash.seed R.RowHash.step) size.width size.height (sheet_from frame.old) ≡ true }
-    ensures { Resized (rules C.WidthRule.cells R.RowHash.seed R.RowHash.step) size.width size.height frame.old frame.new }
+    requires { fits_size (rules_by C.WidthRule R.RowHash) size.width size.height (sheet_from frame.old) ≡ true }
+    ensures { Resized (rules_by C.WidthRule R.RowHash) size.width size.height frame.old frame.new }
 {
-    match resize(frame, size, spare) {
-        Ok(()) => {}
-        Err(_) => unreachable(),
-    }
+    resize(frame, size, spare).unwrap();
 }
 
 impl<C: WidthRule, R: RowHash> Frames<C, R> {
     // An empty frame to draw, over the last one, at a size. Refused, all is as it was.
     pub(crate) fn start(&mut self, size: TerminalSize) -> Result<(), RenderError>
-        ensures { MatchResult result (λ _. Started (rules C.WidthRule.cells R.RowHash.seed R.RowHash.step) size.width size.height self.old self.new) (λ e. Unfit size.width (fits_size (rules C.WidthRule.cells R.RowHash.seed R.RowHash.step) size.width size.height (sheet_from self.old.last)) e × (self.new ≡ self.old)) }
+        ensures { MatchResult result (λ _. Started (rules_by C.WidthRule R.RowHash) size.width size.height self.old self.new) (λ e. Unfit size.width (fits_size (rules_by C.WidthRule R.RowHash) size.width size.height (sheet_from self.old.last)) e × (self.new ≡ self.old)) }
     {
         if size.width() == 1 {
             return Err(RenderError::OneColumn);
         }
-        if let Err(e) = resize(&mut self.last, size, &mut self.spare) {
-            return Err(RenderError::Frame(e));
-        }
+        resize(&mut self.last, size, &mut self.spare)?;
         self.current.restart(size);
         Ok(())
     }
 
     // Both frames at a size. Refused, all is as it was.
     pub(crate) fn refresh(&mut self, size: TerminalSize) -> Result<(), RenderError>
-        ensures { MatchResult result (λ _. Refreshed (rules C.WidthRule.cells R.RowHash.seed R.RowHash.step) size.width size.height self.old self.new) (λ e. Unfit size.width (fits_size (rules C.WidthRule.cells R.RowHash.seed R.RowHash.step) size.width size.height (sheet_from self.old.last) && fits_size (rules C.WidthRule.cells R.RowHash.seed R.RowHash.step) size.width size.height (sheet_from self.old.current)) e × (self.new ≡ self.old)) }
+        ensures { MatchResult result (λ _. Refreshed (rules_by C.WidthRule R.RowHash) size.width size.height self.old self.new) (λ e. Unfit size.width (fits_size (rules_by C.WidthRule R.RowHash) size.width size.height (sheet_from self.old.last) && fits_size (rules_by C.WidthRule R.RowHash) size.width size.height (sheet_from self.old.current)) e × (self.new ≡ self.old)) }
     {
         if size.width() == 1 {
             return Err(RenderError::OneColumn);

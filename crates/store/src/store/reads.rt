@@ -1,12 +1,15 @@
 //! What a store holds.
 
-ghost use Rattle.std.specs.Prelude.{◌≡◌, ◌<◌, ◌≤◌, length, get_or, vec_len, MatchOption, slice_index_or};
+ghost use Rattle.std.specs.Prelude.{◌≡◌, ◌<◌, ◌≤◌, length, MatchOption, slice_index_or};
 ghost use Rattle.layout.specs.Writing.{some};
-ghost use Rattle.store.specs.Piles.{bytes_of, runs_of, runs_of_row, text_of_row, Finds, no_row, no_run};
-ghost use Rattle.store.specs.Stores.{pile_of, all_runs, info_of};
+ghost use Rattle.store.specs.Piles.{bytes_of, runs_of, runs_of_row, text_of_row, Finds, no_row};
+ghost use Rattle.store.specs.Stores.{pile_of, info_of};
+ghost use Rattle.store.specs.Walks.{runs_left, rows_left};
 
 use super::Store;
 use super::info::RowInfo;
+use crate::rows::Rows;
+use crate::runs::Runs;
 use style::StyleSheet;
 
 impl Store {
@@ -55,70 +58,58 @@ impl Store {
         self.runs_len() - self.begins
     }
 
+    /// The finished rows, one after another.
+    pub fn rows(&self) -> Rows<'_>
+        ensures { rows_left result ≡ (pile_of self.now).rows }
+    {
+        Rows {
+            bytes: self.bytes.as_str(),
+            runs: self.runs.as_slice(),
+            rows: self.rows.as_slice(),
+        }
+    }
+
+    /// The runs of the open row, one after another.
+    pub fn open_row(&self) -> Runs<'_>
+        ensures { runs_left result ≡ (pile_of self.now).runs }
+    {
+        Runs {
+            bytes: self.bytes.as_str(),
+            spans: &self.runs[self.begins..],
+        }
+    }
+
     /// The number of runs, the width and the hash of finished row `i`.
     pub fn row(&self, i: usize) -> Option<RowInfo>
         ensures { MatchOption result (length (pile_of self.now).rows ≤ i) (λ x. (i < length (pile_of self.now).rows) × (x ≡ info_of (slice_index_or (pile_of self.now).rows i no_row))) }
     {
-        if i >= self.rows.len() {
-            return None;
-        }
-        let row = self.rows[i];
+        let row = self.rows().get(i)?;
         Some(RowInfo {
-            runs: row.to - row.from,
+            runs: row.runs.len(),
             width: row.width,
             hash: row.hash,
         })
-    }
-
-    // Run `i`, counted over all rows.
-    pub(super) fn run_at(&self, i: usize) -> (&str, StyleSheet)
-        requires { i < vec_len self.now.runs }
-        ensures text { result.0.now ≡ (get_or (all_runs self.now) i no_run).text }
-        ensures style { result.1 ≡ (get_or (all_runs self.now) i no_run).style }
-    {
-        let run = self.runs[i];
-        let (from, to) = (run.from, run.to);
-        (&self.bytes.as_str()[from..to], run.style)
     }
 
     /// Run `k` of finished row `i`.
     pub fn run(&self, i: usize, k: usize) -> Option<(&str, StyleSheet)>
         ensures { Finds (runs_of_row i (pile_of self.now)) k result }
     {
-        if i >= self.rows.len() {
-            return None;
-        }
-        let row = self.rows[i];
-        if k >= row.to - row.from {
-            return None;
-        }
-        Some(self.run_at(row.from + k))
+        self.rows().get(i)?.runs.get(k)
     }
 
     /// The text of finished row `i`: its runs' texts joined.
     pub fn row_text(&self, i: usize) -> Option<&str>
         ensures { MatchOption result (length (pile_of self.now).rows ≤ i) (λ x. (i < length (pile_of self.now).rows) × (x.now ≡ text_of_row i (pile_of self.now))) }
     {
-        if i >= self.rows.len() {
-            return None;
-        }
-        let row = self.rows[i];
-        if row.from >= row.to {
-            return Some("");
-        }
-        let first = self.runs[row.from];
-        let last = self.runs[row.to - 1];
-        let (from, to) = (first.from, last.to);
-        Some(&self.bytes.as_str()[from..to])
+        let row = self.rows().get(i)?;
+        Some(row.runs.text())
     }
 
     /// Run `k` of the open row.
     pub fn open_run(&self, k: usize) -> Option<(&str, StyleSheet)>
         ensures { Finds (pile_of self.now).runs k result }
     {
-        if k >= self.open_runs() {
-            return None;
-        }
-        Some(self.run_at(self.begins + k))
+        self.open_row().get(k)
     }
 }

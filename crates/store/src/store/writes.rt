@@ -53,10 +53,8 @@ impl Store {
         if text.len() > BYTES - self.bytes.len() {
             return Err(Full);
         }
-        if self.bytes.push_str(text).is_err() {
-            // The memory is reserved.
-            unreachable()
-        }
+        // The memory is reserved.
+        self.bytes.push_str(text).unwrap();
         Ok(())
     }
 

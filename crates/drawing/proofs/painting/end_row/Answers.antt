@@ -1,20 +1,25 @@
-use Rattle.terminal.specs.Calls.{return}
-use Rattle.drawing.specs.Drawing.{for_row}
-use Rattle.drawing.proofs.Tries.{call-fault, feed-none, feed-done, feed-fault}
+use Rattle.std.proofs.Common.{[], ◌∷◌, Ok, Err, ap, ◌∙◌}
+use Rattle.std.proofs.lemmas.Result.{err_from_is_err_and}
+use Rattle.terminal.specs.Calls.{return, feed}
+use Rattle.drawing.specs.Drawing.{for_row, feed_if}
+use Rattle.drawing.proofs.Tries.{tried_one, first-fault, feed-none, feed-tried}
 use Rattle.drawing.proofs.painting.end_row.Goals as goal
 
-pub returns-in-Err : goal.returns-in-Err
-returns-in-Err g c =
-    call-fault g.T.Width.WidthRule.cells (for_row c.args.i return) _ (g.T.Terminal.page c.args.terminal.now) _ c.in-Err.fault c.new.result c.in-Err.ensures c.new.ensures
+pub returns-in_err-return_from : goal.returns-in_err-return_from
+returns-in_err-return_from g c =
+    let e = err_from_is_err_and c.from_residual.result c.from_residual.ensures.1 in
+    first-fault _ (for_row c.args.i return ∷ []) (feed_if c.args.i c.args.rows_left) _ _ _ _ (e.1 ∙ ap Err e.2) c.in_err-return_from.ensures
 
-pub returns-in-Err-line_feed : goal.returns-in-Err-line_feed
-returns-in-Err-line_feed g c =
-    feed-fault g.T.Width.WidthRule.cells c.args.i c.in_default.ensures c.args.rows_left (g.T.Terminal.page c.line_feed.new.self) c.in-Err-line_feed.fault
-    c.new-in-Err-line_feed.result c.if-rows_left-gt0.true c.in-Err-line_feed.ensures c.new-in-Err-line_feed.ensures
+pub returns-in_err-check : goal.returns-in_err-check
+returns-in_err-check g c =
+    let e = err_from_is_err_and c.from_residual-in_err-check.result c.from_residual-in_err-check.ensures.1 in
+    let stopped = tried_one g.T.Width.WidthRule.cells (for_row c.args.i feed) _ (g.T.Terminal.page c.line_feed.new.self) _ (Err c.in_err-check.field-0.0) c.line_feed.ensures c.in_err-check.ensures in
+    feed-tried _ c.args.i c.in_ok-return_from.ensures c.args.rows_left _ _ c.if-rows_left-gt0.true (rw (e.1, e.2) stopped)
 
-pub returns-in_default-line_feed : goal.returns-in_default-line_feed
-returns-in_default-line_feed g c =
-    feed-done g.T.Width.WidthRule.cells c.args.i c.in_default.ensures c.args.rows_left c.if-rows_left-gt0.true c.in_default-line_feed.ensures
+pub returns-in_ok-check : goal.returns-in_ok-check
+returns-in_ok-check g c =
+    let fed = tried_one g.T.Width.WidthRule.cells (for_row c.args.i feed) _ (g.T.Terminal.page c.line_feed.new.self) _ (Ok c.in_ok-check.field-0) c.line_feed.ensures c.in_ok-check.ensures in
+    feed-tried _ c.args.i c.in_ok-return_from.ensures c.args.rows_left _ (Ok c.in_ok-check.field-0) c.if-rows_left-gt0.true fed
 
 pub returns-else-rows_left-gt0 : goal.returns-else-rows_left-gt0
-returns-else-rows_left-gt0 g c = feed-none g.T.Width.WidthRule.cells c.args.i c.in_default.ensures c.args.rows_left c.if-rows_left-gt0.false
+returns-else-rows_left-gt0 g c = feed-none _ c.args.i c.in_ok-return_from.ensures c.args.rows_left c.if-rows_left-gt0.false

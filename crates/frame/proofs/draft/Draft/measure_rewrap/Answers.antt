@@ -1,43 +1,33 @@
-use Rattle.std.proofs.Common.{◌<◌, ◌≤◌, length, arith}
-use Rattle.frame.specs.Drafts.{frame_of, rule_at}
-use Rattle.frame.proofs.Rewrapping.{rows_more, rows_end, row_room, line-room, rows-spread}
+use Rattle.std.proofs.Common.{ap, ◌∙◌}
+use Rattle.store.specs.Walks.{rows_left}
+use Rattle.frame.specs.Drafts.{frame_of}
+use Rattle.frame.proofs.Rewrapping.{row_room, closing_room, rows_turn, rows_turn-room, rows_whole, start_room, open_room, last_room, rewrap-counts}
 use Rattle.frame.proofs.draft.Draft.measure_rewrap.Goals as goal
 
-pub loop-i-init : goal.loop-i-init
-loop-i-init g c =
-    let k = rule_at c.args.columns g.C.WidthRule.cells g.R.RowHash.seed g.R.RowHash.step in
-    (c.fresh-end.ensures k, record { rows = omega arith; runs = omega arith; bytes = omega arith })
+pub loop-row-init : goal.loop-row-init
+loop-row-init g c = ((λ m h. h), start_room c.args.self.now _ c.fresh-end.result (ap rows_left c.into_iter-row-iterator.ensures.into_iter_gives ∙ c.rows-row-items.ensures) c.fresh-end.ensures)
 
-pub measure_line-requires : goal.measure_line-requires
-measure_line-requires g c =
-    let k = rule_at c.args.columns g.C.WidthRule.cells g.R.RowHash.seed g.R.RowHash.step in
-    row_room k c.fresh-end.result c.loop-i.end c.loop-i.i (c.fresh-end.ensures k) c.loop-i.invariant.1 (omega arith)
+pub write_runs-requires : goal.write_runs-requires
+write_runs-requires g c = row_room _ _ _ c.in-Some.ensures.steps _ _ c.loop-row.invariant.1
 
 pub close_row-end-requires : goal.close_row-end-requires
-close_row-end-requires g c =
-    let k = rule_at c.args.columns g.C.WidthRule.cells g.R.RowHash.seed g.R.RowHash.step in
-    line-room k c.fresh-end.result c.loop-i.end c.loop-i.i (c.fresh-end.ensures k) c.loop-i.invariant.1 c.measure_line.result c.measure_line.ensures.spread (omega arith)
+close_row-end-requires g c = closing_room _ _ _ _ _ c.in-Some.ensures.steps _ _ c.loop-row.invariant.1 _ c.write_runs.ensures
 
-pub measure_line-requires-2 : goal.measure_line-requires-2
-measure_line-requires-2 g c =
-    let k = rule_at c.args.columns g.C.WidthRule.cells g.R.RowHash.seed g.R.RowHash.step in
-    row_room k c.fresh-end.result c.loop-i.end c.loop-i.i (c.fresh-end.ensures k) c.loop-i.invariant.1 (omega arith)
+pub loop-row-preserved : goal.loop-row-preserved
+loop-row-preserved g c = (
+  rows_turn _ _ _ _ _ c.in-Some.ensures.steps _ _ c.loop-row.invariant.1 _ c.write_runs.ensures _ c.close_row-end.ensures.value c.close_row-end.ensures.spread _ _ c.loop-row.invariant.0,
+  rows_turn-room _ _ _ _ _ c.in-Some.ensures.steps _ _ c.loop-row.invariant.1 _ c.write_runs.ensures _ c.close_row-end.ensures.value c.close_row-end.ensures.spread,
+)
 
-pub loop-i-preserved : goal.loop-i-preserved
-loop-i-preserved g c =
-    let k = rule_at c.args.columns g.C.WidthRule.cells g.R.RowHash.seed g.R.RowHash.step in
-    let f = frame_of c.args.self.now in
-    let l : c.loop-i.i < length f.rows = omega arith in (
-      rows_more c.args.columns g.C.WidthRule.cells g.R.RowHash.seed g.R.RowHash.step f c.loop-i.i c.loop-i.end c.loop-i.invariant.0 l c.measure_line.result _ c.measure_line.ensures.value c.close_row-end.ensures.value,
-      rows-spread k c.fresh-end.result c.loop-i.end c.loop-i.i (c.fresh-end.ensures k) c.loop-i.invariant.1 c.measure_line.result c.measure_line.ensures.spread c.close_row-end.result c.close_row-end.ensures.spread,
-    )
+pub write_runs-requires-2 : goal.write_runs-requires-2
+write_runs-requires-2 g c = open_room _ c.in-None.ensures.steps.0 _ _ c.open_row.ensures _ c.loop-row.invariant.1
 
 pub returns : goal.returns
 returns g c =
-    let k = rule_at c.args.columns g.C.WidthRule.cells g.R.RowHash.seed g.R.RowHash.step in
     let f = frame_of c.args.self.now in
-    let l : length f.rows ≤ c.loop-i.i = omega arith in
+    let all = ap rows_left c.into_iter-row-iterator.ensures.into_iter_gives ∙ c.rows-row-items.ensures in
+    let rows = rows_whole c.args.columns g.C.WidthRule.cells _ _ f.rows _ _ c.in-None.ensures.steps.0 all c.loop-row.invariant.0 in
     record {
-      value = rows_end c.args.columns g.C.WidthRule.cells g.R.RowHash.seed g.R.RowHash.step f c.loop-i.i c.loop-i.end c.loop-i.invariant.0 l c.measure_line-2.result c.measure_line-2.ensures.value;
-      room = line-room k c.fresh-end.result c.loop-i.end c.loop-i.i (c.fresh-end.ensures k) c.loop-i.invariant.1 c.measure_line-2.result c.measure_line-2.ensures.spread (omega arith);
+      value = rewrap-counts _ _ g.R.RowHash.seed g.R.RowHash.step f _ _ _ _ c.open_row.ensures c.fresh-end.ensures rows c.write_runs-2.ensures;
+      room = last_room _ c.in-None.ensures.steps.0 _ _ c.open_row.ensures _ c.loop-row.invariant.1 _ c.write_runs-2.ensures.spread;
     }

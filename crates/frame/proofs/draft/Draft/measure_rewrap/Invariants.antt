@@ -1,9 +1,11 @@
-use Rattle.std.proofs.Common.{◌+◌, ◌*◌, [], take, fold}
-use Rattle.layout.specs.Writing.{fresh, rewrite_row}
-use Rattle.frame.specs.Counts.{counts_of}
-use Rattle.frame.specs.Drafts.{frame_of, rule_at}
-use Rattle.frame.specs.Rewraps.{Tells, Spread}
+use Rattle.std.proofs.Common.{◌+◌}
+use Rattle.store.specs.Walks.{rows_left}
+use Rattle.frame.specs.Counts.{Room}
+use Rattle.frame.specs.Drafts.{frame_of}
+use Rattle.frame.specs.Rewraps.{MeasuresRows, runs_room, rows_room}
+use Rattle.frame.specs.declared.rewrap.Measured.{Measured}
 use Rattle.frame.proofs.draft.Draft.measure_rewrap.Given as goal
 
-abbrev pub invariant-loop-i : goal.invariant-loop-i
-invariant-loop-i g l = Tells l.end (fold (rewrite_row (rule_at l.columns g.C.WidthRule.cells g.R.RowHash.seed g.R.RowHash.step)) (fresh (rule_at l.columns g.C.WidthRule.cells g.R.RowHash.seed g.R.RowHash.step) []) (take l.i (frame_of l.self).rows)) × Spread ((1024 * 16385 + 1) * l.i) (counts_of l.initial.end.counts) (counts_of l.end.counts)
+-- what is measured of the rows that are left is measured of all from the start
+abbrev pub invariant-loop-row : goal.invariant-loop-row
+invariant-loop-row g l = ((m : Measured) → MeasuresRows l.columns g.C.WidthRule.cells (rows_left l.row-iterator) l.end m → MeasuresRows l.columns g.C.WidthRule.cells (rows_left l.initial.row-iterator) l.initial.end m) × Room (1 + rows_room (rows_left l.row-iterator) + runs_room (frame_of l.self).runs) l.end.counts

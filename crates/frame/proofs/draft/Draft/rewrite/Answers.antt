@@ -1,31 +1,38 @@
-use Rattle.std.proofs.Common.{true, sym, ap, ◌∙◌, subst, arith}
+use Rattle.std.proofs.Common.{true, sym, ap, ◌∙◌, fold, subst}
 use Rattle.layout.specs.Tally.{Within, tally_of}
-use Rattle.layout.specs.Writing.{closed}
-use Rattle.frame.specs.Drafts.{frame_of, rule_at}
+use Rattle.layout.specs.Writing.{closed, rewrite_row}
+use Rattle.store.specs.Walks.{rows_left}
+use Rattle.frame.specs.Drafts.{frame_of, rule_by}
 use Rattle.frame.proofs.Rewriting.{row_within, line-within, row_step, open-within, rewrap-end}
 use Rattle.frame.proofs.draft.Draft.rewrite.Goals as goal
 
-pub rewrite_line-requires : goal.rewrite_line-requires
-rewrite_line-requires g c =
-    let k = rule_at c.args.columns g.C.WidthRule.cells g.R.RowHash.seed g.R.RowHash.step in
-    line-within k (frame_of c.args.from.now) c.loop-i.i (frame_of c.loop-i.self) c.loop-i.invariant c.requires (omega arith)
+pub loop-row-init : goal.loop-row-init
+loop-row-init g c =
+    let k = rule_by c.args.columns g.C.WidthRule g.R.RowHash in
+    let rows = ap rows_left c.into_iter-row-iterator.ensures.into_iter_gives ∙ c.rows-row-items.ensures in
+    λ i. fold (rewrite_row k) (c.clear.ensures i) (rows i)
+
+pub write_runs-requires : goal.write_runs-requires
+write_runs-requires g c =
+    let k = rule_by c.args.columns g.C.WidthRule g.R.RowHash in
+    line-within k (frame_of c.args.from.now) _ (frame_of c.loop-row.self) c.loop-row.invariant c.requires _ _ c.in-Some.ensures.steps
 
 pub close_row-requires : goal.close_row-requires
 close_row-requires g c =
-    let k = rule_at c.args.columns g.C.WidthRule.cells g.R.RowHash.seed g.R.RowHash.step in
-    subst (λ f. Within (tally_of (closed k true f))) (sym c.rewrite_line.ensures) (row_within k (frame_of c.args.from.now) c.loop-i.i (frame_of c.loop-i.self) c.loop-i.invariant c.requires (omega arith))
+    let k = rule_by c.args.columns g.C.WidthRule g.R.RowHash in
+    subst (λ f. Within (tally_of (closed k true f))) (sym c.write_runs.ensures) (row_within k (frame_of c.args.from.now) _ (frame_of c.loop-row.self) c.loop-row.invariant c.requires _ _ c.in-Some.ensures.steps)
 
-pub loop-i-preserved : goal.loop-i-preserved
-loop-i-preserved g c =
-    let k = rule_at c.args.columns g.C.WidthRule.cells g.R.RowHash.seed g.R.RowHash.step in
-    row_step k (frame_of c.args.from.now) c.loop-i.i (frame_of c.loop-i.self) c.loop-i.invariant c.requires (omega arith) (frame_of c.close_row.new.self) (c.close_row.ensures ∙ ap (closed k true) c.rewrite_line.ensures)
+pub loop-row-preserved : goal.loop-row-preserved
+loop-row-preserved g c =
+    let k = rule_by c.args.columns g.C.WidthRule g.R.RowHash in
+    row_step k (frame_of c.args.from.now) _ (frame_of c.loop-row.self) c.loop-row.invariant c.requires _ _ c.in-Some.ensures.steps _ (c.close_row.ensures ∙ ap (closed k true) c.write_runs.ensures)
 
-pub rewrite_line-requires-2 : goal.rewrite_line-requires-2
-rewrite_line-requires-2 g c =
-    let k = rule_at c.args.columns g.C.WidthRule.cells g.R.RowHash.seed g.R.RowHash.step in
-    open-within k (frame_of c.args.from.now) c.loop-i.i (frame_of c.loop-i.self) c.loop-i.invariant c.requires (omega arith)
+pub write_runs-requires-2 : goal.write_runs-requires-2
+write_runs-requires-2 g c =
+    let k = rule_by c.args.columns g.C.WidthRule g.R.RowHash in
+    open-within k (frame_of c.args.from.now) _ (frame_of c.loop-row.self) c.loop-row.invariant c.requires c.in-None.ensures.steps.0 _ c.open_row.ensures
 
 pub returns : goal.returns
 returns g c =
-    let k = rule_at c.args.columns g.C.WidthRule.cells g.R.RowHash.seed g.R.RowHash.step in
-    rewrap-end k (frame_of c.args.from.now) c.loop-i.i (frame_of c.loop-i.self) c.loop-i.invariant c.requires (omega arith) (frame_of c.rewrite_line-2.new.self) c.rewrite_line-2.ensures
+    let k = rule_by c.args.columns g.C.WidthRule g.R.RowHash in
+    rewrap-end k (frame_of c.args.from.now) _ (frame_of c.loop-row.self) c.loop-row.invariant c.requires c.in-None.ensures.steps.0 _ c.open_row.ensures (frame_of c.write_runs-2.new.self) c.write_runs-2.ensures

@@ -1,7 +1,9 @@
-use Rattle.std.proofs.Common.{◌≡◌, [], drop, fold}
+use Rattle.std.proofs.Common.{◌≡◌, [], fold}
 use Rattle.layout.specs.Writing.{fresh, rewrite_row}
-use Rattle.frame.specs.Drafts.{frame_of, rule_at}
+use Rattle.store.specs.Walks.{rows_left}
+use Rattle.frame.specs.Drafts.{frame_of, rule_by}
 use Rattle.frame.proofs.draft.Draft.rewrite.Given as goal
 
-abbrev pub invariant-loop-i : goal.invariant-loop-i
-invariant-loop-i g l = fold (rewrite_row (rule_at l.columns g.C.WidthRule.cells g.R.RowHash.seed g.R.RowHash.step)) (frame_of l.self) (drop l.i (frame_of l.from).rows) ≡ fold (rewrite_row (rule_at l.columns g.C.WidthRule.cells g.R.RowHash.seed g.R.RowHash.step)) (fresh (rule_at l.columns g.C.WidthRule.cells g.R.RowHash.seed g.R.RowHash.step) []) (frame_of l.from).rows
+-- what is left makes of the frame what all made of it at the start
+abbrev pub invariant-loop-row : goal.invariant-loop-row
+invariant-loop-row g l = fold (rewrite_row (rule_by l.columns g.C.WidthRule g.R.RowHash)) (frame_of l.self) (rows_left l.row-iterator) ≡ fold (rewrite_row (rule_by l.columns g.C.WidthRule g.R.RowHash)) (fresh (rule_by l.columns g.C.WidthRule g.R.RowHash) []) (frame_of l.from).rows
