@@ -8,7 +8,7 @@ use width::{Fnv, Table};
 
 type Frame = FrameState<Table, Fnv>;
 
-// The text is refused. Without the refusal's place, which would be kept through each round.
+// The text is refused. With a FrameError in its place a round takes 3 in 100 more instructions.
 #[derive(Clone, Copy, PartialEq)]
 struct Refused;
 
