@@ -1,74 +1,84 @@
 // Texts in hex, one a line, each answered by a line.
-use ansi::{AnsiAwareChars, AnsiStrippedChars, Piece, Refusal};
+ghost use Rattle.std.specs.Iterator.{IsFinite};
+
+use ansi::{Piece, Refusal};
 use hexadecimal::{Hex, decode};
 use std::alloc::Global;
 use std::fmt;
 use std::fmt::Write;
 
-// What a text is answered by.
+// A piece as a word: `E:` and its bytes in hex, or `C:` and its code point.
 #[derive(Clone, Copy)]
-pub(crate) enum Answer {
-    Pieces,
-    Stripped,
+pub(crate) struct Word<'a>(Piece<'a>);
+
+impl<'a> From<Piece<'a>> for Word<'a> {
+    fn from(piece: Piece<'a>) -> Word<'a> {
+        Word(piece)
+    }
 }
 
-fn push_refusal(out: &mut String, refusal: Refusal) -> fmt::Result {
-    write!(out, "refused {} {}", refusal.number(), refusal.place())?;
+impl From<char> for Word<'_> {
+    fn from(c: char) -> Self {
+        Word(Piece::Char(c))
+    }
+}
+
+impl fmt::Display for Word<'_> {
+    fn fmt<W: fmt::Write>(&self, f: &mut fmt::Formatter<W>) -> fmt::Result {
+        match self.0 {
+            Piece::Escape { text, .. } => write!(f, "E:{}", Hex(text.as_bytes())),
+            Piece::Char(c) => write!(f, "C:{:x}", u32::from(c)),
+        }
+    }
+}
+
+// The words with a space between two, `-` where there is none.
+fn push_words<'a, T: Into<Word<'a>>, I: Iterator<Item = T> + Drop>(
+    out: &mut String,
+    mut pieces: I,
+) -> fmt::Result
+    requires can { (s : I) → I.can_next s }
+    requires ends { (s : I) → IsFinite (I.remaining s) }
+{
+    let Some(first) = pieces.next() else {
+        return out.write_str("-");
+    };
+    write!(out, "{}", first.into())?;
+    for piece in pieces {
+        write!(out, " {}", piece.into())?;
+    }
     Ok(())
 }
 
-// A space before each word but the first.
-fn push_space(out: &mut String, first: bool) -> fmt::Result {
-    if first { Ok(()) } else { out.write_str(" ") }
-}
-
-// `-` where there is no word.
-fn push_end(out: &mut String, none: bool) -> fmt::Result {
-    if none { out.write_str("-") } else { Ok(()) }
-}
-
-fn push_pieces(out: &mut String, pieces: AnsiAwareChars) -> fmt::Result {
-    let mut first = true;
-    for piece in pieces {
-        push_space(out, first)?;
-        match piece {
-            Piece::Escape { text, .. } => write!(out, "E:{}", Hex(text.as_bytes()))?,
-            Piece::Char(c) => write!(out, "C:{:x}", u32::from(c))?,
+// What a text is answered by: its pieces, or why it is refused.
+pub(crate) fn push_answer<'a, T: Into<Word<'a>>, I: Iterator<Item = T> + Drop>(
+    out: &mut String,
+    pieces: Result<I, Refusal>,
+) -> fmt::Result
+    requires can { (s : I) → I.can_next s }
+    requires ends { (s : I) → IsFinite (I.remaining s) }
+{
+    match pieces {
+        Ok(pieces) => push_words(out, pieces),
+        Err(refusal) => {
+            write!(out, "refused {} {}", refusal.number(), refusal.place())?;
+            Ok(())
         }
-        first = false;
-    }
-    push_end(out, first)
-}
-
-fn push_chars(out: &mut String, chars: AnsiStrippedChars) -> fmt::Result {
-    let mut first = true;
-    for c in chars {
-        push_space(out, first)?;
-        write!(out, "C:{:x}", u32::from(c))?;
-        first = false;
-    }
-    push_end(out, first)
-}
-
-fn push_answer(out: &mut String, text: &[u8], answer: Answer) -> fmt::Result {
-    match answer {
-        Answer::Pieces => match AnsiAwareChars::new(text) {
-            Ok(pieces) => push_pieces(out, pieces),
-            Err(refusal) => push_refusal(out, refusal),
-        },
-        Answer::Stripped => match AnsiStrippedChars::new(text) {
-            Ok(chars) => push_chars(out, chars),
-            Err(refusal) => push_refusal(out, refusal),
-        },
     }
 }
 
 // A line for each line of the input.
-pub(crate) fn answers(heap: Global, input: &str, answer: Answer) -> anyhow::Result<String> {
+pub(crate) fn answers<F: Fn(&mut String, &[u8]) -> fmt::Result>(
+    heap: Global,
+    input: &str,
+    answer: F,
+) -> anyhow::Result<String>
+    requires { F.IsAlwaysCallable answer }
+{
     let mut out = String::new(heap);
     for (number, line) in input.lines().enumerate() {
         match decode(heap, line)? {
-            Some(text) => push_answer(&mut out, text.as_slice(), answer)?,
+            Some(text) => answer(&mut out, text.as_slice())?,
             None => write!(out, "line {} not understood", number.saturating_add(1))?,
         }
         out.push('\n')?;

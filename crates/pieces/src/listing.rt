@@ -6,25 +6,57 @@ use std::alloc::Global;
 use std::fmt;
 use std::fmt::Write;
 
-// What was read.
+// The pieces of a text, each with its place.
 #[derive(Clone, Copy)]
+struct Placed<'a>(AnsiAwareChars<'a>);
+
+impl<'a> Iterator for Placed<'a> {
+    type Item = (usize, Piece<'a>);
+
+    ghost can_next = { λ _. Unit {0} };
+
+    ghost remaining = { λ s. ⟦<AnsiAwareChars<'a> as Iterator>⟧.remaining s.0 };
+
+    fn next(&mut self) -> Option<(usize, Piece<'a>)> {
+        let place = self.0.place();
+        Some((place, self.0.next()?))
+    }
+}
+
+// What was read.
+#[derive(Clone, Copy, Default)]
 struct Counts {
+    bytes: usize,
     escapes: usize,
     colours: usize,
     chars: usize,
 }
 
+impl fmt::Display for Counts {
+    fn fmt<W: fmt::Write>(&self, f: &mut fmt::Formatter<W>) -> fmt::Result {
+        let Counts {
+            bytes,
+            escapes,
+            colours,
+            chars,
+        } = *self;
+        let pieces = escapes.saturating_add(chars);
+        write!(
+            f,
+            "read {bytes} bytes: {pieces} pieces, {escapes} escapes, {colours} colour sequences, {chars} characters"
+        )
+    }
+}
+
 // A line for each piece.
-fn push_pieces(out: &mut String, mut pieces: AnsiAwareChars) -> Result<Counts, fmt::Error> {
+fn push_pieces(out: &mut String, text: &str) -> Result<Counts, fmt::Error> {
     let mut counts = Counts {
-        escapes: 0,
-        colours: 0,
-        chars: 0,
+        bytes: text.len(),
+        ..Counts::default()
     };
-    let mut place = pieces.place();
-    while let Some(piece) = pieces.next() {
+    for (place, piece) in Placed(text.ansi_aware_chars()) {
         match piece {
-            Piece::Escape { text, place } => {
+            Piece::Escape { text, .. } => {
                 write!(out, "{place} escape {}", Hex(text.as_bytes()))?;
                 if colour_parameters(text.as_bytes()).is_some() {
                     out.write_str(" colour")?;
@@ -38,7 +70,6 @@ fn push_pieces(out: &mut String, mut pieces: AnsiAwareChars) -> Result<Counts, f
             }
         }
         out.write_str("\n")?;
-        place = pieces.place();
     }
     Ok(counts)
 }
@@ -56,33 +87,22 @@ fn push_stripped(out: &mut String, text: &str) -> fmt::Result {
     out.write_str("\n")
 }
 
-fn push_counts(out: &mut String, bytes: usize, counts: Counts) -> fmt::Result {
-    let pieces = counts.escapes.saturating_add(counts.chars);
-    let escapes = counts.escapes;
-    let colours = counts.colours;
-    let chars = counts.chars;
-    writeln!(
-        out,
-        "read {bytes} bytes: {pieces} pieces, {escapes} escapes, {colours} colour sequences, {chars} characters"
-    )?;
+fn push_text(out: &mut String, text: &str) -> fmt::Result {
+    let counts = push_pieces(out, text)?;
+    if text.is_empty() {
+        out.write_str("empty text\n")?;
+    } else {
+        push_stripped(out, text)?;
+    }
+    writeln!(out, "{counts}")?;
     Ok(())
 }
 
 pub(crate) fn listing(heap: Global, text: &[u8]) -> Result<String, fmt::Error> {
     let mut out = String::new(heap);
-    let text = match read_utf8(text) {
-        Ok(text) => text,
-        Err(refusal) => {
-            writeln!(out, "refused {} at {}", refusal.number(), refusal.place())?;
-            return Ok(out);
-        }
-    };
-    let counts = push_pieces(&mut out, text.ansi_aware_chars())?;
-    if text.is_empty() {
-        out.write_str("empty text\n")?;
-    } else {
-        push_stripped(&mut out, text)?;
+    match read_utf8(text) {
+        Ok(text) => push_text(&mut out, text)?,
+        Err(refusal) => writeln!(out, "refused {} at {}", refusal.number(), refusal.place())?,
     }
-    push_counts(&mut out, text.len(), counts)?;
     Ok(out)
 }

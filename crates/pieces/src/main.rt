@@ -5,52 +5,55 @@
 mod lines;
 mod listing;
 
+use ansi::{AnsiAwareChars, AnsiStrippedChars};
+use lines::push_answer;
 use std::io::Read;
-use std::{env, io};
+use std::{env, fmt};
 
 const HELP: &str =
     "usage: pieces [list | stripped] < INPUT: the pieces of a text; list, stripped: of the text in hex on each line";
 
-// What the program does.
-#[derive(Clone, Copy)]
-enum Mode {
-    Listing,
-    Lines(lines::Answer),
-    Help,
+fn print_listing(rt: &HostRuntime) -> anyhow::Result<()> {
+    let heap = rt.alloc();
+    let mut input = Vec::new(heap);
+    rt.stdin().read_to_end(&mut input)?;
+    rt.print(listing::listing(heap, input.as_slice())?)?;
+    Ok(())
 }
 
-fn chosen(rt: &HostRuntime) -> io::Result<Mode> {
-    let mut args = env::args(rt)?;
-    let _program = args.next();
-    let Some(word) = args.next() else {
-        return Ok(Mode::Listing);
-    };
-    if args.next().is_some() {
-        return Ok(Mode::Help);
-    }
-    match word.as_str() {
-        "list" => Ok(Mode::Lines(lines::Answer::Pieces)),
-        "stripped" => Ok(Mode::Lines(lines::Answer::Stripped)),
-        _ => Ok(Mode::Help),
-    }
+fn print_answers<F: Fn(&mut String, &[u8]) -> fmt::Result>(
+    rt: &HostRuntime,
+    answer: F,
+) -> anyhow::Result<()>
+    requires { F.IsAlwaysCallable answer }
+{
+    let heap = rt.alloc();
+    let mut input = String::new(heap);
+    rt.stdin().read_to_string(&mut input)?;
+    rt.print(lines::answers(heap, input.as_str(), answer)?)?;
+    Ok(())
 }
 
 fn run(rt: &HostRuntime) -> anyhow::Result<()> {
-    let heap = rt.alloc();
-    match chosen(rt)? {
-        Mode::Listing => {
-            let mut input = Vec::new(heap);
-            rt.stdin().read_to_end(&mut input)?;
-            rt.print(listing::listing(heap, input.as_slice())?)?;
+    let mut args = env::args(rt)?;
+    let _program = args.next();
+    let (word, more) = (args.next(), args.next());
+    match (word.as_deref(), more) {
+        (None, _) => print_listing(rt),
+        (Some("list"), None) => {
+            print_answers(rt, |out, text| push_answer(out, AnsiAwareChars::new(text)))
         }
-        Mode::Lines(answer) => {
-            let mut input = String::new(heap);
-            rt.stdin().read_to_string(&mut input)?;
-            rt.print(lines::answers(heap, input.as_str(), answer)?)?;
+        (Some("stripped"), None) => {
+            print_answers(
+                rt,
+                |out, text| push_answer(out, AnsiStrippedChars::new(text)),
+            )
         }
-        Mode::Help => rt.println(HELP)?,
+        _ => {
+            rt.println(HELP)?;
+            Ok(())
+        }
     }
-    Ok(())
 }
 
 fn main(rt: HostRuntime) -> anyhow::Result<()> {

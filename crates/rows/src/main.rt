@@ -2,10 +2,10 @@
 
 #![tactic(auto)]
 
+mod fault;
 mod play;
 mod styles;
 
-use play::Session;
 use std::env;
 use std::io::Read;
 
@@ -22,11 +22,7 @@ fn run(rt: &HostRuntime) -> anyhow::Result<()> {
     rt.stdin().read_to_end(&mut input)?;
     // A byte that is no text becomes a character that no line of a script has.
     let script = String::from_utf8_lossy(heap, input.as_slice())?;
-    let mut session = Session::open(heap)?;
-    for line in script.as_str().lines() {
-        session.play(heap, line)?;
-    }
-    rt.print(session.report()?)?;
+    rt.print(play::answers(heap, script.as_str())?)?;
     Ok(())
 }
 

@@ -1,189 +1,183 @@
 // A script, call by call.
-use crate::styles::{push_style, read_style};
+use crate::fault::Fault;
+use crate::styles::Words;
 use frame::{FrameError, FrameState};
 use hexadecimal::{Hex, decode};
-use size::TerminalSize;
+use size::{Position, TerminalSize};
 use std::alloc::{AllocError, Global};
 use std::fmt;
 use std::fmt::Write;
+use style::StyleSheet;
 use width::{Fnv, Table};
 
 type Frame = FrameState<Table, Fnv>;
 
 // One line of a script.
-#[derive(Clone, Copy)]
+#[derive(Drop)]
 enum Call<'a> {
-    Script,
+    Script(&'a str),
     Size(u16, u16),
-    Write(&'a str, &'a str),
+    Write(StyleSheet, Vec<u8>),
     Mark(isize),
     Finish,
 }
 
-#[derive(Drop)]
-pub(crate) struct Session {
-    frame: Frame,
-    spare: Frame,
-    out: String,
-    lines: u64,
-    calls: u64,
-    refused: u64,
-}
-
-fn read_call(line: &str) -> Option<Call<'_>> {
-    let mut words = line.split(' ');
-    let call = match words.next()? {
-        "script" => {
-            let _name = words.next()?;
-            Call::Script
+impl<'a> Call<'a> {
+    fn read(heap: Global, line: &'a str) -> Result<Call<'a>, Fault> {
+        let mut words = line.split(' ');
+        match (words.next(), words.next(), words.next(), words.next()) {
+            (Some("script"), Some(name), None, _) => Ok(Call::Script(name)),
+            (Some("size"), Some(w), Some(h), None) => Ok(Call::Size(w.parse()?, h.parse()?)),
+            (Some("write"), Some(style), Some(text), None) => {
+                let Words(style) = style.parse()?;
+                let text = decode(heap, text)?.ok_or(Fault::NotUnderstood)?;
+                Ok(Call::Write(style, text))
+            }
+            (Some("mark"), Some(offset), None, _) => Ok(Call::Mark(offset.parse()?)),
+            (Some("finish"), None, _, _) => Ok(Call::Finish),
+            _ => Err(Fault::NotUnderstood),
         }
-        "size" => {
-            let w = words.next()?.parse::<u16>().ok()?;
-            let h = words.next()?.parse::<u16>().ok()?;
-            Call::Size(w, h)
-        }
-        "write" => Call::Write(words.next()?, words.next()?),
-        "mark" => Call::Mark(words.next()?.parse::<isize>().ok()?),
-        "finish" => Call::Finish,
-        _ => return None,
-    };
-    if words.next().is_none() {
-        Some(call)
-    } else {
-        None
     }
 }
 
+// Why a call is refused.
+#[derive(Clone, Copy)]
+enum Refused {
+    NoSize,
+    Frame(FrameError),
+}
+
+impl From<FrameError> for Refused {
+    fn from(error: FrameError) -> Refused {
+        Refused::Frame(error)
+    }
+}
+
+impl fmt::Display for Refused {
+    fn fmt<W: fmt::Write>(&self, f: &mut fmt::Formatter<W>) -> fmt::Result {
+        match self {
+            Refused::NoSize => f.write_str("fault 5"),
+            Refused::Frame(error) => {
+                write!(f, "refused {}", error.number())?;
+                match error.place() {
+                    Some(place) => write!(f, " at {place}"),
+                    None => Ok(()),
+                }
+            }
+        }
+    }
+}
+
+// A finished row of a frame, as a line.
+#[derive(Clone, Copy)]
+struct Row<'a>(&'a Frame, usize);
+
+impl fmt::Display for Row<'_> {
+    fn fmt<W: fmt::Write>(&self, f: &mut fmt::Formatter<W>) -> fmt::Result {
+        let Row(frame, i) = *self;
+        let Some(row) = frame.row(i) else {
+            return Ok(());
+        };
+        write!(f, "row {i} width {} hash {:016x}", row.width, row.hash)?;
+        for (text, style) in (0..row.runs).filter_map(|k| frame.run(i, k)) {
+            write!(f, " run {} {}", Words(style), Hex(text.as_bytes()))?;
+        }
+        f.write_str("\n")
+    }
+}
+
+#[derive(Drop)]
+struct Session {
+    frame: Frame,
+    spare: Frame,
+    out: String,
+    calls: usize,
+    refused: usize,
+}
+
 impl Session {
-    pub(crate) fn open(heap: Global) -> Result<Session, AllocError> {
+    fn open(heap: Global) -> Result<Session, AllocError> {
         Ok(Session {
             frame: FrameState::new(heap, TerminalSize::default())?,
             spare: FrameState::new(heap, TerminalSize::default())?,
             out: String::new(heap),
-            lines: 0,
             calls: 0,
             refused: 0,
         })
     }
 
-    fn size(&mut self, w: u16, h: u16) -> fmt::Result {
-        let Some(size) = TerminalSize::new(w, h) else {
-            self.refused = self.refused.saturating_add(1);
-            return self.out.write_str("size fault 5\n");
-        };
-        match self.frame.resize_if_needed(size, &mut self.spare) {
-            Ok(()) => self.out.write_str("size 0\n"),
-            Err(e) => self.refuse("size", e),
-        }
-    }
-
-    fn refuse(&mut self, name: &str, error: FrameError) -> fmt::Result {
+    fn refuse(&mut self, name: &str, refused: Refused) -> fmt::Result {
         self.refused = self.refused.saturating_add(1);
-        let number = error.number();
-        write!(self.out, "{name} refused {number}")?;
-        if let Some(place) = error.place() {
-            write!(self.out, " at {place}")?;
-        }
-        self.out.write_str("\n")
+        writeln!(self.out, "{name} {refused}")?;
+        Ok(())
     }
 
-    fn write(&mut self, heap: Global, style: &str, text: &str) -> anyhow::Result<bool> {
-        let (Some(style), Some(text)) = (read_style(style), decode(heap, text)?) else {
-            return Ok(false);
-        };
-        match self.frame.write(text.as_slice(), style) {
-            Ok(()) => self.out.write_str("write 0\n")?,
-            Err(e) => self.refuse("write", e)?,
-        }
-        Ok(true)
-    }
-
-    fn mark(&mut self, offset: isize) -> fmt::Result {
-        match self.frame.mark_cursor_position(offset) {
-            Ok(position) => {
-                let row = position.row;
-                let col = position.col;
-                writeln!(self.out, "mark 0 {row} {col}")?;
-                Ok(())
-            }
-            Err(e) => self.refuse("mark", e),
-        }
-    }
-
-    fn push_row(&mut self, i: usize) -> fmt::Result {
-        let Some(row) = self.frame.row(i) else {
-            return Ok(());
-        };
-        let width = row.width;
-        let hash = row.hash;
-        write!(self.out, "row {i} width {width} hash {hash:016x}")?;
-        for k in 0..row.runs {
-            if let Some((text, style)) = self.frame.run(i, k) {
-                self.out.write_str(" run ")?;
-                push_style(&mut self.out, style)?;
-                write!(self.out, " {}", Hex(text.as_bytes()))?;
-            }
-        }
-        self.out.write_str("\n")
+    fn resize(&mut self, w: u16, h: u16) -> Result<(), Refused> {
+        let size = TerminalSize::new(w, h).ok_or(Refused::NoSize)?;
+        self.frame.resize_if_needed(size, &mut self.spare)?;
+        Ok(())
     }
 
     fn finish(&mut self) -> fmt::Result {
         self.frame.finish();
         self.out.write_str("finish 0\n")?;
         for i in 0..self.frame.rows_len() {
-            self.push_row(i)?;
+            write!(self.out, "{}", Row(&self.frame, i))?;
         }
         let size = self.frame.terminal_size();
         self.frame.restart(size);
         Ok(())
     }
 
-    pub(crate) fn play(&mut self, heap: Global, line: &str) -> anyhow::Result<()> {
-        self.lines = self.lines.saturating_add(1);
-        let understood = match read_call(line) {
-            Some(Call::Script) => {
+    fn play(&mut self, call: Call) -> fmt::Result {
+        self.calls = self.calls.saturating_add(1);
+        match call {
+            Call::Script(name) => {
                 self.frame.restart(TerminalSize::default());
-                writeln!(self.out, "{line}")?;
-                true
+                writeln!(self.out, "script {name}")?;
             }
-            Some(Call::Size(w, h)) => {
-                self.size(w, h)?;
-                true
-            }
-            Some(Call::Write(style, text)) => self.write(heap, style, text)?,
-            Some(Call::Mark(offset)) => {
-                self.mark(offset)?;
-                true
-            }
-            Some(Call::Finish) => {
-                self.finish()?;
-                true
-            }
-            None => false,
-        };
-        if understood {
-            self.calls = self.calls.saturating_add(1);
-        } else {
-            let number = self.lines;
-            writeln!(self.out, "line {number} not understood")?;
+            Call::Size(w, h) => match self.resize(w, h) {
+                Ok(()) => self.out.write_str("size 0\n")?,
+                Err(refused) => self.refuse("size", refused)?,
+            },
+            Call::Write(style, text) => match self.frame.write(text.as_slice(), style) {
+                Ok(()) => self.out.write_str("write 0\n")?,
+                Err(error) => self.refuse("write", error.into())?,
+            },
+            Call::Mark(offset) => match self.frame.mark_cursor_position(offset) {
+                Ok(Position { row, col }) => writeln!(self.out, "mark 0 {row} {col}")?,
+                Err(error) => self.refuse("mark", error.into())?,
+            },
+            Call::Finish => self.finish()?,
         }
         Ok(())
     }
+}
 
-    // The answers, and a line that counts what was done.
-    pub(crate) fn report(self) -> anyhow::Result<String> {
-        let Session {
-            frame: _,
-            spare: _,
-            mut out,
-            lines,
-            calls,
-            refused,
-        } = self;
-        writeln!(
-            out,
-            "played {calls} calls of {lines} lines, {refused} refused"
-        )?;
-        Ok(out)
+// The answers to a script, and a line that counts what was done.
+pub(crate) fn answers(heap: Global, script: &str) -> anyhow::Result<String> {
+    let mut session = Session::open(heap)?;
+    for (number, line) in script.lines().enumerate() {
+        match Call::read(heap, line) {
+            Ok(call) => session.play(call)?,
+            Err(Fault::NotUnderstood) => {
+                let number = number.saturating_add(1);
+                writeln!(session.out, "line {number} not understood")?;
+            }
+            Err(Fault::Memory(error)) => return Err(error.into()),
+        }
     }
+    let Session {
+        frame: _,
+        spare: _,
+        mut out,
+        calls,
+        refused,
+    } = session;
+    let lines = script.lines().count();
+    writeln!(
+        out,
+        "played {calls} calls of {lines} lines, {refused} refused"
+    )?;
+    Ok(out)
 }

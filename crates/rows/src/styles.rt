@@ -1,119 +1,150 @@
 // Styles as words: `-`, or `fg=X`, `bg=X`, `bold` and `italic` joined by commas.
+use crate::fault::Fault;
 use std::fmt;
+use std::str::FromStr;
 use style::{Attributes, Color, StyleSheet};
 
-// The colour that a word names: a name, `n:N` or `rgb:R:G:B`.
-fn read_color(word: &str) -> Option<Color> {
-    if let Some(n) = word.strip_prefix("n:") {
-        return Some(Color::AnsiValue(n.parse::<u8>().ok()?));
-    }
-    if let Some(parts) = word.strip_prefix("rgb:") {
-        let mut parts = parts.split(':');
-        let r = parts.next()?.parse::<u8>().ok()?;
-        let g = parts.next()?.parse::<u8>().ok()?;
-        let b = parts.next()?.parse::<u8>().ok()?;
-        return if parts.next().is_none() {
-            Some(Color::rgb(r, g, b))
-        } else {
-            None
-        };
-    }
-    for code in 0..16 {
-        if let Some(color) = Color::from_code(code) {
-            if name(color) == word {
-                return Some(color);
-            }
+// The colours that have a name.
+const NAMES: [(&str, Color); 16] = [
+    ("Black", Color::Black),
+    ("LightRed", Color::LightRed),
+    ("DarkRed", Color::DarkRed),
+    ("LightGreen", Color::LightGreen),
+    ("DarkGreen", Color::DarkGreen),
+    ("LightYellow", Color::LightYellow),
+    ("DarkYellow", Color::DarkYellow),
+    ("LightBlue", Color::LightBlue),
+    ("DarkBlue", Color::DarkBlue),
+    ("LightMagenta", Color::LightMagenta),
+    ("DarkMagenta", Color::DarkMagenta),
+    ("LightCyan", Color::LightCyan),
+    ("DarkCyan", Color::DarkCyan),
+    ("White", Color::White),
+    ("Grey", Color::Grey),
+    ("DarkGrey", Color::DarkGrey),
+];
+
+// A colour as a word: a name, `n:N` or `rgb:R:G:B`.
+#[derive(Clone, Copy)]
+struct Shade(Color);
+
+impl FromStr for Shade {
+    type Err = Fault;
+
+    fn from_str(word: &str) -> Result<Shade, Fault> {
+        if let Some(n) = word.strip_prefix("n:") {
+            return Ok(Shade(Color::AnsiValue(n.parse()?)));
+        }
+        if let Some(parts) = word.strip_prefix("rgb:") {
+            let mut parts = parts.split(':');
+            return match (parts.next(), parts.next(), parts.next(), parts.next()) {
+                (Some(r), Some(g), Some(b), None) => {
+                    Ok(Shade(Color::rgb(r.parse()?, g.parse()?, b.parse()?)))
+                }
+                _ => Err(Fault::NotUnderstood),
+            };
+        }
+        match NAMES.iter().find(|(name, _)| *name == word) {
+            Some((_, color)) => Ok(Shade(*color)),
+            None => Err(Fault::NotUnderstood),
         }
     }
-    None
 }
 
-// A style with one word more.
-fn with_word(style: StyleSheet, word: &str) -> Option<StyleSheet> {
-    if let Some(color) = word.strip_prefix("fg=") {
-        return Some(style.with_fg(read_color(color)?));
-    }
-    if let Some(color) = word.strip_prefix("bg=") {
-        return Some(style.with_bg(read_color(color)?));
-    }
-    match word {
-        "bold" => Some(style.with_attr(style.att | Attributes::BOLD)),
-        "italic" => Some(style.with_attr(style.att | Attributes::ITALIC)),
-        _ => None,
+impl fmt::Display for Shade {
+    fn fmt<W: fmt::Write>(&self, f: &mut fmt::Formatter<W>) -> fmt::Result {
+        match self.0 {
+            Color::Rgb { r, g, b } => write!(f, "rgb:{r}:{g}:{b}"),
+            Color::AnsiValue(n) => write!(f, "n:{n}"),
+            named => match NAMES.iter().find(|(_, color)| *color == named) {
+                Some((name, _)) => f.write_str(*name),
+                None => Ok(()),
+            },
+        }
     }
 }
 
-pub(crate) fn read_style(words: &str) -> Option<StyleSheet> {
-    let mut style = StyleSheet::empty();
-    if words == "-" {
-        return Some(style);
-    }
-    for word in words.split(',') {
-        style = with_word(style, word)?;
-    }
-    Some(style)
+// A word of a style.
+#[derive(Clone, Copy)]
+enum Word {
+    Fg(Shade),
+    Bg(Shade),
+    Bold,
+    Italic,
 }
 
-fn name(color: Color) -> &'static str {
-    match color {
-        Color::Black => "Black",
-        Color::LightRed => "LightRed",
-        Color::DarkRed => "DarkRed",
-        Color::LightGreen => "LightGreen",
-        Color::DarkGreen => "DarkGreen",
-        Color::LightYellow => "LightYellow",
-        Color::DarkYellow => "DarkYellow",
-        Color::LightBlue => "LightBlue",
-        Color::DarkBlue => "DarkBlue",
-        Color::LightMagenta => "LightMagenta",
-        Color::DarkMagenta => "DarkMagenta",
-        Color::LightCyan => "LightCyan",
-        Color::DarkCyan => "DarkCyan",
-        Color::White => "White",
-        Color::Grey => "Grey",
-        Color::DarkGrey => "DarkGrey",
-        Color::Rgb { .. } => "rgb",
-        Color::AnsiValue(_) => "n",
+impl FromStr for Word {
+    type Err = Fault;
+
+    fn from_str(word: &str) -> Result<Word, Fault> {
+        match (word.split_once('='), word) {
+            (Some(("fg", color)), _) => Ok(Word::Fg(color.parse()?)),
+            (Some(("bg", color)), _) => Ok(Word::Bg(color.parse()?)),
+            (_, "bold") => Ok(Word::Bold),
+            (_, "italic") => Ok(Word::Italic),
+            _ => Err(Fault::NotUnderstood),
+        }
     }
 }
 
-// A comma between words.
-fn push_word<W: fmt::Write>(out: &mut W, first: bool, word: &str) -> fmt::Result {
-    if !first {
-        out.write_str(",")?;
-    }
-    out.write_str(word)
-}
-
-fn push_color<W: fmt::Write>(out: &mut W, color: Color) -> fmt::Result {
-    match color {
-        Color::Rgb { r, g, b } => write!(out, "rgb:{r}:{g}:{b}"),
-        Color::AnsiValue(n) => write!(out, "n:{n}"),
-        _ => out.write_str(name(color)),
+impl fmt::Display for Word {
+    fn fmt<W: fmt::Write>(&self, f: &mut fmt::Formatter<W>) -> fmt::Result {
+        match self {
+            Word::Fg(color) => write!(f, "fg={color}"),
+            Word::Bg(color) => write!(f, "bg={color}"),
+            Word::Bold => f.write_str("bold"),
+            Word::Italic => f.write_str("italic"),
+        }
     }
 }
 
-pub(crate) fn push_style<W: fmt::Write>(out: &mut W, style: StyleSheet) -> fmt::Result {
-    if style.is_empty() {
-        return out.write_str("-");
+impl Word {
+    // The style with this word more.
+    fn added_to(self, style: StyleSheet) -> StyleSheet {
+        match self {
+            Word::Fg(Shade(color)) => style.with_fg(color),
+            Word::Bg(Shade(color)) => style.with_bg(color),
+            Word::Bold => style.with_attr(style.att | Attributes::BOLD),
+            Word::Italic => style.with_attr(style.att | Attributes::ITALIC),
+        }
     }
-    let mut first = true;
-    if let Some(color) = style.fg {
-        push_word(out, first, "fg=")?;
-        push_color(out, color)?;
-        first = false;
+}
+
+// A style as words.
+#[derive(Clone, Copy)]
+pub(crate) struct Words(pub(crate) StyleSheet);
+
+impl FromStr for Words {
+    type Err = Fault;
+
+    fn from_str(words: &str) -> Result<Words, Fault> {
+        let mut style = StyleSheet::empty();
+        if words != "-" {
+            for word in words.split(',') {
+                style = word.parse::<Word>()?.added_to(style);
+            }
+        }
+        Ok(Words(style))
     }
-    if let Some(color) = style.bg {
-        push_word(out, first, "bg=")?;
-        push_color(out, color)?;
-        first = false;
+}
+
+impl fmt::Display for Words {
+    fn fmt<W: fmt::Write>(&self, f: &mut fmt::Formatter<W>) -> fmt::Result {
+        let StyleSheet { fg, bg, att } = self.0;
+        let words = [
+            fg.map(|color| Word::Fg(Shade(color))),
+            bg.map(|color| Word::Bg(Shade(color))),
+            att.contains(Attributes::BOLD).then_some(Word::Bold),
+            att.contains(Attributes::ITALIC).then_some(Word::Italic),
+        ];
+        let mut words = words.into_iter().flatten();
+        let Some(first) = words.next() else {
+            return f.write_str("-");
+        };
+        write!(f, "{first}")?;
+        for word in words {
+            write!(f, ",{word}")?;
+        }
+        Ok(())
     }
-    if style.att.contains(Attributes::BOLD) {
-        push_word(out, first, "bold")?;
-        first = false;
-    }
-    if style.att.contains(Attributes::ITALIC) {
-        push_word(out, first, "italic")?;
-    }
-    Ok(())
 }

@@ -21,24 +21,19 @@ fn row_agrees(heap: Global, word: &str, frame: &Frame, i: usize) -> Result<bool,
     ) else {
         return Ok(false);
     };
-    match width.parse::<u16>() {
-        Ok(width) => Ok(width == row.width && bytes.as_slice() == text.as_bytes()),
-        Err(_) => Ok(false),
-    }
+    Ok(width.parse::<u16>().ok() == Some(row.width) && bytes.as_slice() == text.as_bytes())
 }
 
 fn rows_agree(heap: Global, answer: &str, frame: &Frame) -> Result<bool, AllocError> {
     if answer == "-" {
         return Ok(frame.rows_len() == 0);
     }
-    let mut rows: usize = 0;
-    for word in answer.split(' ') {
-        if !row_agrees(heap, word, frame, rows)? {
+    for (i, word) in answer.split(' ').enumerate() {
+        if !row_agrees(heap, word, frame, i)? {
             return Ok(false);
         }
-        rows = rows.saturating_add(1);
     }
-    Ok(rows == frame.rows_len())
+    Ok(answer.split(' ').count() == frame.rows_len())
 }
 
 fn read_style(word: &str) -> StyleSheet {
@@ -49,15 +44,16 @@ fn read_style(word: &str) -> StyleSheet {
     }
 }
 
-// Whether the text, in hex, has these rows at so many columns.
-pub(crate) fn agrees(
-    heap: Global,
-    columns: &str,
-    style: &str,
-    text: &str,
-    rows: &str,
-) -> anyhow::Result<bool> {
+// Whether the text of a line, in hex, has these rows at so many columns.
+pub(crate) fn agrees(heap: Global, line: &str) -> anyhow::Result<bool> {
+    let mut fields = line.split('\t');
+    let (Some(columns), Some(style)) = (fields.next(), fields.next()) else {
+        return Ok(false);
+    };
     let Some(size) = TerminalSize::new(columns.parse::<u16>()?, 24) else {
+        return Ok(false);
+    };
+    let (Some(text), Some(rows)) = (fields.next(), fields.next()) else {
         return Ok(false);
     };
     let Some(text) = decode(heap, text)? else {

@@ -3,96 +3,93 @@ use ansi::{AnsiAwareChars, AnsiStrippedChars, Piece, Refusal};
 use hexadecimal::decode;
 use std::alloc::{AllocError, Global};
 
+// What a word of an answer stands for.
+trait Answered: Drop {
+    fn agrees(&self, heap: Global, word: &str) -> Result<bool, AllocError>;
+}
+
 // `C:` and the code point in hex
-fn char_agrees(word: &str, c: char) -> bool {
-    let Some(code) = word.strip_prefix("C:") else {
-        return false;
-    };
-    match u32::from_str_radix(code, 16) {
-        Ok(code) => code == u32::from(c),
-        Err(_) => false,
+impl Answered for char {
+    fn agrees(&self, _heap: Global, word: &str) -> Result<bool, AllocError> {
+        let code = word
+            .strip_prefix("C:")
+            .and_then(|code| u32::from_str_radix(code, 16).ok());
+        Ok(code == Some(u32::from(*self)))
     }
 }
 
-// `E:` and the bytes in hex
-fn escape_agrees(heap: Global, word: &str, text: &str) -> Result<bool, AllocError> {
-    let Some(bytes) = word.strip_prefix("E:") else {
-        return Ok(false);
-    };
-    match decode(heap, bytes)? {
-        Some(bytes) => Ok(bytes.as_slice() == text.as_bytes()),
-        None => Ok(false),
+// of an escape sequence `E:` and the bytes in hex
+impl Answered for Piece<'_> {
+    fn agrees(&self, heap: Global, word: &str) -> Result<bool, AllocError> {
+        match self {
+            Piece::Escape { text, .. } => {
+                let Some(bytes) = word.strip_prefix("E:") else {
+                    return Ok(false);
+                };
+                Ok(decode(heap, bytes)?.is_some_and(|bytes| bytes.as_slice() == text.as_bytes()))
+            }
+            Piece::Char(c) => c.agrees(heap, word),
+        }
     }
 }
 
-fn pieces_agree(
+// A word for each, or `-` for none.
+fn words_agree<T: Answered, I: Iterator<Item = T> + Drop>(
     heap: Global,
     answer: &str,
-    mut pieces: AnsiAwareChars,
-) -> Result<bool, AllocError> {
+    mut read: I,
+) -> Result<bool, AllocError>
+    requires { (s : I) → I.can_next s }
+{
     if answer == "-" {
-        return Ok(pieces.next().is_none());
+        return Ok(read.next().is_none());
     }
     for word in answer.split(' ') {
-        let agrees = match pieces.next() {
-            Some(Piece::Escape { text, .. }) => escape_agrees(heap, word, text)?,
-            Some(Piece::Char(c)) => char_agrees(word, c),
-            None => false,
+        let Some(piece) = read.next() else {
+            return Ok(false);
         };
-        if !agrees {
+        if !piece.agrees(heap, word)? {
             return Ok(false);
         }
     }
-    Ok(pieces.next().is_none())
-}
-
-fn chars_agree(answer: &str, mut chars: AnsiStrippedChars) -> bool {
-    if answer == "-" {
-        return chars.next().is_none();
-    }
-    for word in answer.split(' ') {
-        let agrees = match chars.next() {
-            Some(c) => char_agrees(word, c),
-            None => false,
-        };
-        if !agrees {
-            return false;
-        }
-    }
-    chars.next().is_none()
+    Ok(read.next().is_none())
 }
 
 // `refused`, the number and the place
 fn refusal_agrees(answer: &str, refusal: Refusal) -> bool {
     let mut words = answer.split(' ');
-    if words.next() != Some("refused") {
-        return false;
-    }
-    let number = words.next().unwrap_or("").parse::<u8>();
-    let place = words.next().unwrap_or("").parse::<usize>();
-    match (number, place) {
-        (Ok(number), Ok(place)) => number == refusal.number() && place == refusal.place(),
-        _ => false,
+    let (word, number, place) = (words.next(), words.next(), words.next());
+    word == Some("refused")
+        && number.and_then(|number| number.parse::<u8>().ok()) == Some(refusal.number())
+        && place.and_then(|place| place.parse::<usize>().ok()) == Some(refusal.place())
+}
+
+fn answer_agrees<T: Answered, I: Iterator<Item = T> + Drop>(
+    heap: Global,
+    answer: &str,
+    read: Result<I, Refusal>,
+) -> Result<bool, AllocError>
+    requires { (s : I) → I.can_next s }
+{
+    match read {
+        Ok(read) => words_agree(heap, answer, read),
+        Err(refusal) => Ok(refusal_agrees(answer, refusal)),
     }
 }
 
-// Whether the text, in hex, has these pieces and these characters.
-pub(crate) fn agrees(
-    heap: Global,
-    text: &str,
-    pieces: &str,
-    stripped: &str,
-) -> anyhow::Result<bool> {
+// Whether the text of a line, in hex, has these pieces and these characters.
+pub(crate) fn agrees(heap: Global, line: &str) -> anyhow::Result<bool> {
+    let mut fields = line.split('\t');
+    let (Some(text), Some(pieces), Some(stripped)) = (fields.next(), fields.next(), fields.next())
+    else {
+        return Ok(false);
+    };
     let Some(text) = decode(heap, text)? else {
         return Ok(false);
     };
-    let first = match AnsiAwareChars::new(text.as_slice()) {
-        Ok(read) => pieces_agree(heap, pieces, read)?,
-        Err(refusal) => refusal_agrees(pieces, refusal),
-    };
-    let second = match AnsiStrippedChars::new(text.as_slice()) {
-        Ok(read) => chars_agree(stripped, read),
-        Err(refusal) => refusal_agrees(stripped, refusal),
-    };
-    Ok(first && second)
+    let text = text.as_slice();
+    Ok(
+        answer_agrees(heap, pieces, AnsiAwareChars::new(text))?
+            && answer_agrees(heap, stripped, AnsiStrippedChars::new(text))?,
+    )
 }
