@@ -17,7 +17,9 @@ use store::Store;
 use style::StyleSheet;
 use width::{RowHash, WidthRule};
 
-// What is stored, the style of the current run, and the open row's width and hash.
+// What is stored, the style of the current run, and the open row's width and hash. A step asks that what it makes keeps
+// within the limits, which no field can say: what that is differs from step to step. The columns are the terminal's, and
+// kept once, in `FrameState`.
 #[derive(Drop)]
 pub(crate) struct Draft<R> {
     pub(crate) store: Store,

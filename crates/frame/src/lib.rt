@@ -13,4 +13,4 @@ mod tally;
 pub use error::FrameError;
 pub use examples::worked_examples;
 pub use state::FrameState;
-pub use store::RowInfo;
+pub use store::{Row, RowInfo, Rows, Runs};

@@ -10,7 +10,8 @@ use layout::{closing_adds, folds, within_limits};
 use width::WidthRule;
 
 // Finished rows, runs and bytes of a frame, whether its open row has runs and its current run bytes, and the open
-// row's width.
+// row's width. Whether the style is plain is no field: a text does not change it, which each step would have to promise.
+// How much room a step needs is no ghost field: it differs from step to step.
 #[derive(Clone, Copy)]
 pub(crate) struct Counts {
     pub(crate) rows: usize,

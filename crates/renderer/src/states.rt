@@ -1,4 +1,5 @@
-// The states of a renderer.
+// The states of a renderer. They are types, so that calls out of order do not compile; that two of them have the same
+// fields makes them no twins.
 use crate::frames::Frames;
 use size::Position;
 use terminal::Terminal;

@@ -1,7 +1,7 @@
 // A script, call by call.
 use crate::fault::Fault;
 use crate::styles::Words;
-use frame::{FrameError, FrameState};
+use frame::{FrameError, FrameState, Row};
 use hexadecimal::{Hex, decode};
 use size::{Position, TerminalSize};
 use std::alloc::{AllocError, Global};
@@ -68,18 +68,15 @@ impl fmt::Display for Refused {
     }
 }
 
-// A finished row of a frame, as a line.
+// Finished row `i` of a frame, as a line.
 #[derive(Clone, Copy)]
-struct Row<'a>(&'a Frame, usize);
+struct Line<'a>(usize, Row<'a>);
 
-impl fmt::Display for Row<'_> {
+impl fmt::Display for Line<'_> {
     fn fmt<W: fmt::Write>(&self, f: &mut fmt::Formatter<W>) -> fmt::Result {
-        let Row(frame, i) = *self;
-        let Some(row) = frame.row(i) else {
-            return Ok(());
-        };
+        let Line(i, row) = *self;
         write!(f, "row {i} width {} hash {:016x}", row.width, row.hash)?;
-        for (text, style) in (0..row.runs).filter_map(|k| frame.run(i, k)) {
+        for (text, style) in row.runs {
             write!(f, " run {} {}", Words(style), Hex(text.as_bytes()))?;
         }
         f.write_str("\n")
@@ -121,8 +118,8 @@ impl Session {
     fn finish(&mut self) -> fmt::Result {
         self.frame.finish();
         self.out.write_str("finish 0\n")?;
-        for i in 0..self.frame.rows_len() {
-            write!(self.out, "{}", Row(&self.frame, i))?;
+        for (i, row) in self.frame.rows().enumerate() {
+            write!(self.out, "{}", Line(i, row))?;
         }
         let size = self.frame.terminal_size();
         self.frame.restart(size);
