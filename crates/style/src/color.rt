@@ -87,7 +87,7 @@ impl Color {
 }
 
 impl EqMeans for Color {
-    ghost use Rattle.style.specs.Distinct.{colors_decide};
+    ghost use Rattle.style.specs.Deciding.{colors_decide};
 
     ghost means = { λ c d same. Decides same (c ≡ d) };
 

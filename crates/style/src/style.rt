@@ -4,7 +4,7 @@ ghost use Rattle.std.specs.Prelude.{◌≡◌, Decides, nat_lt};
 ghost use Rattle.style.specs.Attrs.{no_flags, Contains, joined, bits_of, attributes_of, BitsTell, without};
 ghost use Rattle.style.specs.Bytes.{optional_bytes, style_bytes, BytesTell};
 ghost use Rattle.style.specs.Styles.{plain, is_plain, OnlyPlain, styled, Alike, with_fg, with_bg, with_attr};
-ghost use Rattle.style.specs.Distinct.{attributes_decide, styles_decide, styled_alike};
+ghost use Rattle.style.specs.Deciding.{attributes_decide, styles_decide, styled_alike};
 
 use crate::color::Color;
 use crate::meaning::EqMeans;
@@ -293,7 +293,7 @@ where
 {
     ghost means = { Alike (λ x y same. same ≡ T.eq x y) };
 
-    ghost holds = { styled_alike T.eq };
+    ghost holds = { styled_alike styles_decide T.eq };
 }
 
 #[cfg(test)]
@@ -313,7 +313,7 @@ mod tests {
         a == b
     }
 
-    #[tactic(auto, using(crate::specs::Distinct::styles_decide))]
+    #[tactic(auto, using(crate::specs::Deciding::styles_decide))]
     fn same_style(a: StyleSheet, b: StyleSheet) -> bool
         ensures { Decides result (a ≡ b) }
     {
