@@ -42,6 +42,7 @@ impl Color {
     }
 
     /// The ANSI code of a named colour, 0 to 15. The other colours have none.
+    // No cast: variants with fields have none, and the codes' order is not that of the variants.
     pub fn code(self) -> Option<u8>
         ensures { result ≡ code_of self }
     {
@@ -67,6 +68,8 @@ impl Color {
     }
 
     /// The named colour with this ANSI code. There is none above 15.
+    // No `TryFrom`: its error would say no more than `None` does.
+    #[tactic(auto, using(crate::proofs::Codes::codes_name))]
     pub fn from_code(code: u8) -> Option<Color>
         ensures value { result ≡ named code }
         ensures law { CodesName }

@@ -75,6 +75,7 @@ impl Attributes {
     }
 
     /// The attributes with this number. There are none above 3.
+    // No `TryFrom`: its error would say no more than `None` does.
     pub fn from_bits(bits: u8) -> Option<Attributes>
         ensures value { result ≡ attributes_of bits }
         ensures law { BitsTell }
@@ -170,6 +171,7 @@ impl StyleSheet {
     }
 
     /// Nine bytes that no other style has.
+    #[tactic(auto, using(crate::proofs::Together::bytes_tell, crate::proofs::Together::put_together))]
     pub fn to_bytes(&self) -> [u8; 9]
         ensures value { result ≡ style_bytes self.now }
         ensures law { BytesTell }
@@ -194,10 +196,7 @@ impl StyleSheet {
 fn optional_bytes(color: Option<Color>) -> [u8; 4]
     ensures { result ≡ optional_bytes color }
 {
-    match color {
-        Some(color) => color.to_bytes(),
-        None => [0; 4],
-    }
+    color.map_or([0; 4], Color::to_bytes)
 }
 
 impl EqMeans for StyleSheet {
