@@ -97,6 +97,14 @@ impl EqMeans for Color {
     ghost holds = { colors_decide.colors };
 }
 
+impl EqMeans for Option<Color> {
+    ghost use Rattle.style.specs.Deciding.{colors_decide};
+
+    ghost means = { λ c d same. Decides same (c ≡ d) };
+
+    ghost holds = { colors_decide.options };
+}
+
 /// The named colours in the order of their codes.
 const NAMES: [Color; 16] = [
     Color::Black,
