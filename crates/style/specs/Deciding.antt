@@ -1,5 +1,5 @@
--- What the derived `==` decides. Neither of the last two proofs rests on the other, so that each fails by itself.
-use Rattle.std.proofs.Common.{◌≡◌, Bool, true, false, ◌&&◌, ◌⊎◌, MatchBool, inl, inr, Some, None, Decides, refl, ap, rules}
+-- What the derived `==` decides. No proof of the last three rests on another of them, so that each fails by itself.
+use Rattle.std.proofs.Common.{◌≡◌, Bool, true, false, ◌&&◌, ◌⊎◌, MatchBool, inl, inr, Some, None, Decides, refl, ap, arith, rules}
 use Rattle.std.proofs.lemmas.Bool.Decides.{Decides-and}
 use Rattle.std.specs.Cmp.Rules.{comparing}
 use Rattle.std.specs.Option.{option_eq}
@@ -33,11 +33,17 @@ alike-at true true d = (d.0 refl, refl)
 alike-at true false d = inl (λ p. let no : false ≡ true = d.1 p in cc)
 alike-at false y d = inr refl
 
-pub styled_alike : StylesDecide → {T : Type 0} (same : T → T → Bool) → StyledAlike same
-styled_alike each same a b = alike-at _ _ (each a.style b.style)
+pub record AllAlike : Type 1 where
+  pub at : {T : Type 0} (same : T → T → Bool) → StyledAlike same
+
+alike-by : StylesDecide → AllAlike
+alike-by each = record { at = λ same a b. alike-at _ _ (each a.style b.style) }
 
 pub colors_decide : ColorsDecide
-colors_decide = record { colors = λ c d. search (comparing, rules); options = options-decide (λ c d. search (comparing, rules)) }
+colors_decide = record { colors = λ c d. grind arith; options = options-decide (λ c d. grind arith) }
 
 pub styles_decide : StylesDecide
-styles_decide = fields-decide (λ c d. search (comparing, rules))
+styles_decide = fields-decide (λ c d. grind arith)
+
+pub styled_alike : AllAlike
+styled_alike = alike-by (fields-decide (λ c d. grind arith))

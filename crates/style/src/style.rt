@@ -292,7 +292,7 @@ where
 {
     ghost means = { Alike (λ x y same. same ≡ T.eq x y) };
 
-    ghost holds = { styled_alike styles_decide T.eq };
+    ghost holds = { styled_alike.at T.eq };
 }
 
 #[cfg(test)]
