@@ -38,6 +38,7 @@ impl TerminalSize {
     }
 }
 
+// Not derived: of its fields' defaults no size is made.
 impl Default for TerminalSize {
     ghost is_default = { λ r. (r.width ≡ 80) × (r.height ≡ 24) };
 
