@@ -8,6 +8,8 @@ pub struct Dimension {
     height: u16,
 }
 
+// `width` and `height` are those of `TerminalSize` too: a trait for both would be longer than the four bodies, and
+// each caller would have to import it.
 impl Dimension {
     pub fn new(width: u16, height: u16) -> Dimension
         ensures { (result.width ≡ width) × (result.height ≡ height) }
@@ -18,14 +20,12 @@ impl Dimension {
     pub fn width(&self) -> u16
         ensures { result ≡ self.now.width }
     {
-        let width = self.width;
-        width
+        self.width
     }
 
     pub fn height(&self) -> u16
         ensures { result ≡ self.now.height }
     {
-        let height = self.height;
-        height
+        self.height
     }
 }

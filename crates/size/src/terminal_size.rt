@@ -1,10 +1,8 @@
 // The size of a terminal.
-ghost use Rattle.std.specs.Prelude.{◌≡◌, ◌<◌, ◌⊎◌, Decides, MatchOption};
-ghost use Rattle.std.specs.Cmp.Rules.{comparing};
-ghost use Rattle.std.proofs.Common.{rules, arith};
+ghost use Rattle.std.specs.Prelude.{◌≡◌, ◌<◌, ◌⊎◌, MatchOption};
 
 /// Columns and rows, neither of which is 0.
-#[derive(Clone, Copy)]
+#[derive(Clone, Copy, PartialEq, Eq)]
 pub struct TerminalSize {
     width: u16,
     height: u16,
@@ -12,9 +10,13 @@ pub struct TerminalSize {
 }
 
 impl TerminalSize {
-    /// None if the width or the height is 0.
+    ghost use Rattle.size.specs.Equality.{SizesDecide};
+
+    /// None if the width or the height is 0. Sizes are equal by `==` where both parts are.
+    #[tactic(auto, using(crate::specs::Equality::sizes_decide))]
     pub fn new(width: u16, height: u16) -> Option<TerminalSize>
-        ensures { MatchOption result ((width ≡ 0) ⊎ (height ≡ 0)) (λ s. (s.width ≡ width) × (s.height ≡ height)) }
+        ensures size { MatchOption result ((width ≡ 0) ⊎ (height ≡ 0)) (λ s. (s.width ≡ width) × (s.height ≡ height)) }
+        ensures law { SizesDecide }
     {
         if width == 0 || height == 0 {
             None
@@ -26,18 +28,17 @@ impl TerminalSize {
     pub fn width(&self) -> u16
         ensures { result ≡ self.now.width }
     {
-        let width = self.width;
-        width
+        self.width
     }
 
     pub fn height(&self) -> u16
         ensures { result ≡ self.now.height }
     {
-        let height = self.height;
-        height
+        self.height
     }
 }
 
+// Not derived: of its fields' defaults no size is made.
 impl Default for TerminalSize {
     ghost is_default = { λ r. (r.width ≡ 80) × (r.height ≡ 24) };
 
@@ -46,21 +47,5 @@ impl Default for TerminalSize {
             width: 80,
             height: 24,
         }
-    }
-}
-
-impl PartialEq for TerminalSize {
-    ghost use Rattle.size.specs.Equality.{same_size, SizesDecide};
-
-    ghost eq = { same_size };
-
-    ghost laws = { first_of (Prim.search (comparing, rules), Prim.grind (arith, Self.row.coded.inj)) };
-
-    fn eq(&self, other: &TerminalSize) -> bool
-        ensures value { result ≡ same_size self.now other.now }
-        ensures decides { Decides result ((self.now.width ≡ other.now.width) × (self.now.height ≡ other.now.height)) }
-        ensures law { SizesDecide }
-    {
-        self.width == other.width && self.height == other.height
     }
 }

@@ -1,31 +1,31 @@
--- What `==` computes of colours, of styles and of styled contents, and what that decides.
-use Rattle.std.specs.Prelude.{◌≡◌, Bool, Decides, Option, nat_eq}
-use mathlib.Core.Bool.{beq}
-use Rattle.std.specs.Cmp.Lexicographic.{pointwise}
+-- What the derived `==` computes of colours, of styles and of styled contents, and what that decides.
+use Rattle.std.specs.Prelude.{◌≡◌, Bool, Decides, Option}
 use Rattle.std.specs.Option.{option_eq}
 use Rattle.std.specs.Ordering.{on, eq_of_both}
 use Rattle.style.specs.declared.color.Color.{Color}
 use Rattle.style.specs.declared.style.Attributes.{Attributes}
 use Rattle.style.specs.declared.style.StyleSheet.{StyleSheet}
 use Rattle.style.specs.declared.style.Styled.{Styled}
-use Rattle.style.specs.Bytes.{color_bytes}
+use Rattle.style.specs.contracts.color.ColorPartialEq.TheImpl as of_colors
+use Rattle.style.specs.contracts.style.AttributesPartialEq.TheImpl as of_attributes
+use Rattle.style.specs.contracts.style.StyleSheetPartialEq.TheImpl as of_styles
 use Rattle.style.specs.Styles.{Alike}
 
--- colours, by the bytes that tell them apart
+-- colours
 abbrev pub same_color : Color → Color → Bool
-same_color = on color_bytes (pointwise nat_eq)
+same_color = of_colors.ghosts.eq
 
 -- attributes, flag by flag
 abbrev pub same_attributes : Attributes → Attributes → Bool
-same_attributes = eq_of_both (on (λ a. a.italic) beq) (on (λ a. a.bold) beq)
+same_attributes = of_attributes.ghosts.eq
 
 -- styles, field by field
 abbrev pub same_style : StyleSheet → StyleSheet → Bool
-same_style = eq_of_both (eq_of_both (on (λ s. s.fg) (option_eq same_color)) (on (λ s. s.bg) (option_eq same_color))) (on (λ s. s.att) same_attributes)
+same_style = of_styles.ghosts.eq
 
--- styled contents, by their styles and by the contents' own test
+-- styled contents, by the contents' own test and by their styles
 abbrev pub same_styled : {T : Type 0} → (T → T → Bool) → Styled T → Styled T → Bool
-same_styled same = eq_of_both (on (λ a. a.style) same_style) (on (λ a. a.content) same)
+same_styled same = eq_of_both (on (λ a. a.content) same) (on (λ a. a.style) same_style)
 
 -- The test of colours decides equality, and so does that of colours that may be missing.
 pub record ColorsDecide : Type 0 where

@@ -4,3 +4,4 @@ pub mod Styles
 pub mod Bytes
 pub mod Equality
 pub mod Distinct
+pub mod Deciding

@@ -3,14 +3,13 @@
 ghost use Rattle.std.specs.Prelude.{◌≡◌, Decides};
 ghost use Rattle.style.specs.Bytes.{color_bytes};
 ghost use Rattle.style.specs.Colors.{code_of, named, CodesName};
-ghost use Rattle.std.specs.Cmp.Rules.{comparing};
-ghost use Rattle.std.proofs.Common.{rules};
-ghost use Rattle.style.specs.Equality.{same_color, ColorsDecide};
+
+use crate::meaning::EqMeans;
 
 /// A colour of text.
 ///
 /// Almost every terminal shows the 16 named colours; `Rgb` and `AnsiValue` are for those that show more.
-#[derive(Copy, Clone, Debug, Hash)]
+#[derive(Copy, Clone, Debug, PartialEq, Eq, Hash)]
 pub enum Color {
     Black,
     LightRed,
@@ -43,6 +42,7 @@ impl Color {
     }
 
     /// The ANSI code of a named colour, 0 to 15. The other colours have none.
+    // No cast: variants with fields have none, and the codes' order is not that of the variants.
     pub fn code(self) -> Option<u8>
         ensures { result ≡ code_of self }
     {
@@ -68,6 +68,8 @@ impl Color {
     }
 
     /// The named colour with this ANSI code. There is none above 15.
+    // No `TryFrom`: its error would say no more than `None` does.
+    #[tactic(auto, using(crate::proofs::Codes::codes_name))]
     pub fn from_code(code: u8) -> Option<Color>
         ensures value { result ≡ named code }
         ensures law { CodesName }
@@ -87,30 +89,20 @@ impl Color {
     }
 }
 
-/// Written out, to promise that it decides equality.
-impl PartialEq for Color {
-    ghost eq = { same_color };
+impl EqMeans for Color {
+    ghost use Rattle.style.specs.Deciding.{colors_decide};
 
-    ghost laws = { Prim.search (comparing, rules) };
+    ghost means = { λ c d same. Decides same (c ≡ d) };
 
-    fn eq(&self, other: &Color) -> bool
-        ensures value { result ≡ same_color self.now other.now }
-        ensures decides { Decides result (self.now ≡ other.now) }
-        ensures law { ColorsDecide }
-    {
-        self.to_bytes() == other.to_bytes()
-    }
+    ghost holds = { colors_decide.colors };
 }
 
-impl Eq for Color {
-    ghost laws = { Prim.search (comparing, rules) };
-}
+impl EqMeans for Option<Color> {
+    ghost use Rattle.style.specs.Deciding.{colors_decide};
 
-#[derived]
-impl Hash for Color {
-    ghost use Rattle.style.specs.Distinct.{same_color-decides};
+    ghost means = { λ c d same. Decides same (c ≡ d) };
 
-    ghost respects_eq = { λ x y h. let e : x ≡ y = (same_color-decides x y).0 h in Prim.cc };
+    ghost holds = { colors_decide.options };
 }
 
 /// The named colours in the order of their codes.

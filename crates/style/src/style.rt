@@ -4,18 +4,17 @@ ghost use Rattle.std.specs.Prelude.{◌≡◌, Decides, nat_lt};
 ghost use Rattle.style.specs.Attrs.{no_flags, Contains, joined, bits_of, attributes_of, BitsTell, without};
 ghost use Rattle.style.specs.Bytes.{optional_bytes, style_bytes, BytesTell};
 ghost use Rattle.style.specs.Styles.{plain, is_plain, OnlyPlain, styled, Alike, with_fg, with_bg, with_attr};
-ghost use Rattle.std.specs.Cmp.Rules.{comparing};
-ghost use Rattle.std.proofs.Common.{rules};
-ghost use Rattle.style.specs.Equality.{same_style, same_styled, StylesDecide, StyledAlike};
+ghost use Rattle.style.specs.Deciding.{attributes_decide, styles_decide, styled_alike};
 
 use crate::color::Color;
+use crate::meaning::EqMeans;
 use std::fmt::Display;
 use std::ops::BitOr;
 
 /// Attributes of text. They are flags and can be combined.
 ///
 /// Italic stands first, so that the derived order is that of the numbers.
-#[derive(PartialEq, Eq, PartialOrd, Ord, Hash, Debug, Clone, Copy)]
+#[derive(PartialEq, Eq, PartialOrd, Ord, Hash, Debug, Default, Clone, Copy)]
 pub struct Attributes {
     italic: bool,
     bold: bool,
@@ -76,6 +75,7 @@ impl Attributes {
     }
 
     /// The attributes with this number. There are none above 3.
+    // No `TryFrom`: its error would say no more than `None` does.
     pub fn from_bits(bits: u8) -> Option<Attributes>
         ensures value { result ≡ attributes_of bits }
         ensures law { BitsTell }
@@ -88,6 +88,12 @@ impl Attributes {
             _ => None,
         }
     }
+}
+
+impl EqMeans for Attributes {
+    ghost means = { λ a b same. Decides same (a ≡ b) };
+
+    ghost holds = { attributes_decide };
 }
 
 impl BitOr<Attributes> for Attributes {
@@ -104,7 +110,7 @@ impl BitOr<Attributes> for Attributes {
 }
 
 /// The colours and attributes of a text.
-#[derive(Copy, Clone, Debug, Hash)]
+#[derive(Copy, Clone, Debug, Default, PartialEq, Eq, Hash)]
 pub struct StyleSheet {
     /// Foreground colour.
     pub fg: Option<Color>,
@@ -165,6 +171,7 @@ impl StyleSheet {
     }
 
     /// Nine bytes that no other style has.
+    #[tactic(auto, using(crate::proofs::Together::bytes_tell, crate::proofs::Together::put_together))]
     pub fn to_bytes(&self) -> [u8; 9]
         ensures value { result ≡ style_bytes self.now }
         ensures law { BytesTell }
@@ -183,62 +190,23 @@ impl StyleSheet {
             self.att.bits(),
         ]
     }
-
-    // Whether both colours and the attributes are those of `other`.
-    fn has_fields_of(&self, other: &StyleSheet) -> bool
-        ensures { result ≡ same_style self.now other.now }
-    {
-        self.fg == other.fg && self.bg == other.bg && self.att == other.att
-    }
 }
 
 /// Four bytes of a colour that may be missing: then all are 0.
 fn optional_bytes(color: Option<Color>) -> [u8; 4]
     ensures { result ≡ optional_bytes color }
 {
-    match color {
-        Some(color) => color.to_bytes(),
-        None => [0; 4],
-    }
+    color.map_or([0; 4], Color::to_bytes)
 }
 
-impl Default for StyleSheet {
-    ghost is_default = { λ s. s ≡ plain };
+impl EqMeans for StyleSheet {
+    ghost means = { λ s t same. Decides same (s ≡ t) };
 
-    /// A style sheet with no colours and no attributes.
-    fn default() -> StyleSheet {
-        StyleSheet::empty()
-    }
-}
-
-/// Written out, to promise that it decides equality.
-impl PartialEq for StyleSheet {
-    ghost eq = { same_style };
-
-    ghost laws = { Prim.search (comparing, rules) depth 9 };
-
-    fn eq(&self, other: &StyleSheet) -> bool
-        ensures value { result ≡ same_style self.now other.now }
-        ensures decides { Decides result (self.now ≡ other.now) }
-        ensures law { StylesDecide }
-    {
-        self.has_fields_of(other)
-    }
-}
-
-impl Eq for StyleSheet {
-    ghost laws = { Prim.search (comparing, rules) depth 9 };
-}
-
-#[derived]
-impl Hash for StyleSheet {
-    ghost use Rattle.style.specs.Distinct.{styles_decide};
-
-    ghost respects_eq = { λ x y h. let e : x ≡ y = (styles_decide x y).0 h in Prim.cc };
+    ghost holds = { styles_decide };
 }
 
 /// A content with the style that it is to be shown in.
-#[derive(Clone, Debug, Drop)]
+#[derive(Copy, Clone, Debug, Default, PartialEq, Eq, Drop)]
 pub struct Styled<T>
 where
     T: Display,
@@ -273,7 +241,7 @@ where
     pub fn with_fg(mut self, fg: Color) -> Styled<T>
         ensures { result ≡ styled self.content (with_fg self.style fg) }
     {
-        self.style.fg = Some(fg);
+        self.style = self.style.with_fg(fg);
         self
     }
 
@@ -281,7 +249,7 @@ where
     pub fn with_bg(mut self, bg: Color) -> Styled<T>
         ensures { result ≡ styled self.content (with_bg self.style bg) }
     {
-        self.style.bg = Some(bg);
+        self.style = self.style.with_bg(bg);
         self
     }
 
@@ -289,7 +257,7 @@ where
     pub fn with_attr(mut self, attributes: Attributes) -> Styled<T>
         ensures { result ≡ styled self.content (with_attr self.style attributes) }
     {
-        self.style.att = attributes;
+        self.style = self.style.with_attr(attributes);
         self
     }
 
@@ -307,22 +275,6 @@ where
     }
 }
 
-impl<T> Copy for Styled<T>
-where
-    T: Copy + Display,
-{}
-
-impl<T> Default for Styled<T>
-where
-    T: Default + Display,
-{
-    ghost is_default = { λ s. T.Default.is_default s.content × (s.style ≡ plain) };
-
-    fn default() -> Styled<T> {
-        Styled::new(T::default())
-    }
-}
-
 impl<T> From<T> for Styled<T>
 where
     T: Display,
@@ -334,29 +286,13 @@ where
     }
 }
 
-impl<T> PartialEq for Styled<T>
+impl<T> EqMeans for Styled<T>
 where
     T: PartialEq + Display,
 {
-    ghost eq = { same_styled T.PartialEq.eq };
+    ghost means = { Alike (λ x y same. same ≡ T.eq x y) };
 
-    ghost laws = { Prim.search (comparing, rules) depth 9 };
-
-    #[tactic(auto, using(crate::specs::Distinct::styled_alike))]
-    fn eq(&self, other: &Styled<T>) -> bool
-        ensures value { result ≡ same_styled T.PartialEq.eq self.now other.now }
-        ensures alike { Alike (λ x y r. r ≡ T.PartialEq.eq x y) self.now other.now result }
-        ensures law { StyledAlike T.PartialEq.eq }
-    {
-        self.style == other.style && self.content == other.content
-    }
-}
-
-impl<T> Eq for Styled<T>
-where
-    T: Eq + Display,
-{
-    ghost laws = { Prim.search (comparing, rules) depth 9 };
+    ghost holds = { styled_alike.at T.eq };
 }
 
 #[cfg(test)]
@@ -376,6 +312,7 @@ mod tests {
         a == b
     }
 
+    #[tactic(auto, using(crate::specs::Deciding::styles_decide))]
     fn same_style(a: StyleSheet, b: StyleSheet) -> bool
         ensures { Decides result (a ≡ b) }
     {

@@ -1,8 +1,5 @@
-use Rattle.std.specs.Prelude.{◌≤◌, Bool, true, false, cond}
-use Rattle.std.proofs.Common.{lit≤}
+use Rattle.std.proofs.Common.{◌≤◌, Bool, cond, rules}
 
 -- The two tests alone, since those on the ranges are too many to split on.
 pub narrow : (none two : Bool) → cond none 0 (cond two 2 1) ≤ 2
-narrow true two = lit≤ tt
-narrow false true = lit≤ tt
-narrow false false = lit≤ tt
+narrow none two = search rules

@@ -64,11 +64,7 @@ impl RowHash for Constant {
 pub fn feed_all<R: RowHash>(hash: u64, bytes: &[u8]) -> u64
     ensures { result ≡ fold R.RowHash.step hash bytes.now }
 {
-    let mut all = hash;
-    for byte in bytes {
-        all = R::feed(all, *byte);
-    }
-    all
+    bytes.iter().fold(hash, |all, byte| R::feed(all, *byte))
 }
 
 /// The 64-bit FNV-1a of these bytes.

@@ -66,9 +66,6 @@ impl WidthRule for Table {
 pub fn text_width<R: WidthRule>(text: &str) -> usize
     ensures { result ≡ min (sum_by R.WidthRule.cells (chars text.now)) (2 ^ 64 - 1) }
 {
-    let mut sum: usize = 0;
-    for c in text.chars() {
-        sum = sum.saturating_add(R::width(c));
-    }
-    sum
+    text.chars()
+        .fold(0, |sum: usize, c| sum.saturating_add(R::width(c)))
 }

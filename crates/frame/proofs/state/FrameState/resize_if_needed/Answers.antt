@@ -1,5 +1,6 @@
 use Rattle.std.proofs.Common.{false, sym, refl, ap, ◌∙◌, inr}
-use Rattle.std.proofs.lemmas.Bool.Decides.{not_from_Decides}
+use Rattle.std.proofs.lemmas.Bool.Decides.{Decides-at, not_from_Decides}
+use Rattle.size.specs.Equality.{sizes_decide}
 use Rattle.layout.specs.Limits.{fits}
 use Rattle.layout.specs.Writing.{rewrapped}
 use Rattle.frame.specs.Drafts.{frame_of, rule_at, hashing}
@@ -12,7 +13,7 @@ returns-then-not-fits g c =
     let f = sheet_of c.args.self.now in
     let fit = rewrap-fits (rule_at c.width-columns.result g.C.WidthRule.cells g.R.RowHash.seed g.R.RowHash.step) f _ _ _ c.measure_rewrap-end.ensures.value c.is_empty.ensures.value c.fits.ensures in
     let same = ap (λ w. fits (rule_at w g.C.WidthRule.cells g.R.RowHash.seed g.R.RowHash.step) (rewrapped (rule_at w g.C.WidthRule.cells g.R.RowHash.seed g.R.RowHash.step) f)) c.width-columns.ensures in
-    ((not_from_Decides false c.if-eq.ensures.decides refl, sym same ∙ sym fit ∙ c.if-not-fits.true, refl), refl, refl)
+    ((not_from_Decides false (Decides-at _ _ c.if-eq.ensures (sizes_decide c.args.self.now.terminal_size c.args.new_size)) refl, sym same ∙ sym fit ∙ c.if-not-fits.true, refl), refl, refl)
 
 pub rewrite-requires : goal.rewrite-requires
 rewrite-requires g c =
@@ -32,7 +33,7 @@ returns g c =
     let same = ap (λ w. rewrapped (rule_at w g.C.WidthRule.cells g.R.RowHash.seed g.R.RowHash.step) f) c.width-columns.ensures in
     let k = rule_at c.args.new_size.width g.C.WidthRule.cells g.R.RowHash.seed g.R.RowHash.step in
     inr (
-      not_from_Decides false c.if-eq.ensures.decides refl,
+      not_from_Decides false (Decides-at _ _ c.if-eq.ensures (sizes_decide c.args.self.now.terminal_size c.args.new_size)) refl,
       record {
         fit = sym (ap (fits k) same) ∙ sym fit ∙ c.if-not-fits.false;
         frame = ap frame_of c.swap.ensures.x_after ∙ c.rewrite.ensures ∙ same;
