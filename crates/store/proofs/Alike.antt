@@ -8,7 +8,7 @@ use Rattle.std.specs.Borrow.{Bor}
 use Rattle.std.specs.Cmp.Lexicographic.{pointwise, bytes_decides}
 use Rattle.style.specs.declared.style.StyleSheet.{StyleSheet}
 use Rattle.style.specs.Equality.{same_style}
-use Rattle.style.specs.Distinct.{styles_decide}
+use Rattle.style.specs.Deciding.{styles_decide}
 use Rattle.layout.specs.Frames.{Run}
 use Rattle.store.specs.Walks.{run_of}
 
