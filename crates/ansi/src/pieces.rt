@@ -4,7 +4,7 @@ ghost use Rattle.ansi.specs.Refusals.{NotText};
 ghost use Rattle.ansi.specs.Reading.{Reads, Strips, unread, placed, AwareSteps, StrippedSteps};
 ghost use Rattle.std.specs.Iterator.{at_most};
 
-use crate::matcher::{AnsiMatcher, first};
+use crate::matcher::{escape, first};
 use crate::refusal::{Refusal, read_utf8};
 
 /// An escape sequence, as the part of the text that it is and its place there, or a character.
@@ -37,10 +37,7 @@ impl<'a> AnsiAwareChars<'a> {
     pub fn new(text: &'a [u8]) -> Result<AnsiAwareChars<'a>, Refusal>
         ensures { MatchResult result (Reads text.now) (NotText text.now) }
     {
-        match read_utf8(text) {
-            Ok(input) => Ok(AnsiAwareChars::of(input)),
-            Err(refusal) => Err(refusal),
-        }
+        Ok(AnsiAwareChars::of(read_utf8(text)?))
     }
 
     /// The place in the text at which the next piece begins.
@@ -60,21 +57,18 @@ impl<'a> Iterator for AnsiAwareChars<'a> {
 
     ghost remaining = { λ s. at_most (length (unread s)) };
 
+    #[tactic(auto, using(crate::proofs::Takes::cut, crate::proofs::Takes::takes_escape, crate::proofs::Takes::takes_letter))]
     fn next(&mut self) -> Option<Piece<'a>> {
         let input = self.input;
-        match first(input) {
-            None => None,
-            Some(('\x1B', _)) => {
-                let place = self.place();
-                let matcher = AnsiMatcher { input };
-                let (text, rest) = input.split_at(matcher.escape(1));
-                self.input = rest;
-                Some(Piece::Escape { text, place })
-            }
-            Some((c, rest)) => {
-                self.input = rest;
-                Some(Piece::Char(c))
-            }
+        let (c, rest) = first(input)?;
+        if c == '\x1B' {
+            let place = self.place();
+            self.input = escape(rest);
+            let text = &input[..input.len() - self.input.len()];
+            Some(Piece::Escape { text, place })
+        } else {
+            self.input = rest;
+            Some(Piece::Char(c))
         }
     }
 }
@@ -91,10 +85,8 @@ impl<'a> AnsiStrippedChars<'a> {
     pub fn new(text: &'a [u8]) -> Result<AnsiStrippedChars<'a>, Refusal>
         ensures { MatchResult result (Strips text.now) (NotText text.now) }
     {
-        match read_utf8(text) {
-            Ok(input) => Ok(AnsiStrippedChars { input }),
-            Err(refusal) => Err(refusal),
-        }
+        let input = read_utf8(text)?;
+        Ok(AnsiStrippedChars { input })
     }
 }
 
@@ -107,24 +99,16 @@ impl<'a> Iterator for AnsiStrippedChars<'a> {
 
     ghost remaining = { λ s. at_most (length s.input.now) };
 
+    #[tactic(auto, using(crate::proofs::Takes::letters_behind, crate::proofs::Takes::letters_next))]
     fn next(&mut self) -> Option<char> {
-        let mut input = self.input;
-        loop {
-            match first(input) {
-                None => {
-                    self.input = input;
-                    return None;
-                }
-                Some(('\x1B', _)) => {
-                    let matcher = AnsiMatcher { input };
-                    input = &input[matcher.escape(1)..];
-                }
-                Some((c, rest)) => {
-                    self.input = rest;
-                    return Some(c);
-                }
+        while let Some((c, rest)) = first(self.input) {
+            if c != '\x1B' {
+                self.input = rest;
+                return Some(c);
             }
+            self.input = escape(rest);
         }
+        None
     }
 }
 

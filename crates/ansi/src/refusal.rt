@@ -38,10 +38,7 @@ impl Refusal {
 pub fn read_utf8(bytes: &[u8]) -> Result<&str, Refusal>
     ensures { MatchResult result (λ s. (s.now ≡ bytes.now) × IsUtf8 bytes.now) (NotText bytes.now) }
 {
-    match std::str::from_utf8(bytes) {
-        Ok(text) => Ok(text),
-        Err(e) => Err(Refusal::NotUtf8 {
-            place: e.valid_up_to(),
-        }),
-    }
+    std::str::from_utf8(bytes).map_err(|e| Refusal::NotUtf8 {
+        place: e.valid_up_to(),
+    })
 }
