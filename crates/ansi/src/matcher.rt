@@ -1,7 +1,8 @@
 // Where an escape sequence ends.
 ghost use Rattle.std.specs.Prelude.{◌≡◌, MatchOption};
-ghost use Rattle.ansi.specs.Machine.{InEscape, InCsi, InIntermediate, InString};
+ghost use Rattle.ansi.specs.Machine.{InEscape, InCsi, InIntermediate, InString, move};
 ghost use Rattle.ansi.specs.Places.{Ended, Begins, behind};
+ghost use Rattle.ansi.specs.States.{state_of, move_of};
 
 // The first character of a text, and the text behind it.
 pub(crate) fn first(text: &str) -> Option<(char, &str)>
@@ -12,64 +13,85 @@ pub(crate) fn first(text: &str) -> Option<(char, &str)>
     Some((c, chars.as_str()))
 }
 
-// Each of the four functions below stands for a state. It takes what is unread of an escape sequence and of the text
-// behind it, and gives the text behind it. Their calls become jumps: a long sequence takes no stack.
-#[cycle(csi_entry_escape_escape_intermediate_string)]
-pub(crate) fn escape(unread: &str) -> &str
-    ensures { result.now ≡ behind InEscape unread.now }
-{
-    let Some((c, rest)) = first(unread) else {
-        return unread;
-    };
-    match c {
-        '\x18' | '\x1A' => rest,
-        '[' => csi_entry(rest),
-        'P' | 'X' | ']' | '^' | '_' => string(rest),
-        '\x20'..='\x2F' => escape_intermediate(rest),
-        '\x30'..='\x7E' => rest,
-        _ => escape(rest),
+// What is being read of an escape sequence.
+#[derive(Clone, Copy)]
+pub(crate) enum AnsiMatcher {
+    Escape,
+    CsiEntry,
+    EscapeIntermediate,
+    String,
+}
+
+impl AnsiMatcher {
+    // The state behind a character; none where the sequence ends with it.
+    fn next(self, c: char) -> Option<AnsiMatcher>
+        ensures { move_of result ≡ move (state_of self) c }
+    {
+        match self {
+            AnsiMatcher::Escape => AnsiMatcher::escape(c),
+            AnsiMatcher::CsiEntry => AnsiMatcher::csi_entry(c),
+            AnsiMatcher::EscapeIntermediate => AnsiMatcher::escape_intermediate(c),
+            AnsiMatcher::String => AnsiMatcher::string(c),
+        }
+    }
+
+    fn escape(c: char) -> Option<AnsiMatcher>
+        ensures { move_of result ≡ move InEscape c }
+    {
+        match c {
+            '\x18' | '\x1A' => None,
+            '[' => Some(AnsiMatcher::CsiEntry),
+            'P' | 'X' | ']' | '^' | '_' => Some(AnsiMatcher::String),
+            '\x20'..='\x2F' => Some(AnsiMatcher::EscapeIntermediate),
+            '\x30'..='\x7E' => None,
+            _ => Some(AnsiMatcher::Escape),
+        }
+    }
+
+    fn csi_entry(c: char) -> Option<AnsiMatcher>
+        ensures { move_of result ≡ move InCsi c }
+    {
+        match c {
+            '\x18' | '\x1A' | '\x40'..='\x7E' => None,
+            '\x1B' => Some(AnsiMatcher::Escape),
+            _ => Some(AnsiMatcher::CsiEntry),
+        }
+    }
+
+    fn escape_intermediate(c: char) -> Option<AnsiMatcher>
+        ensures { move_of result ≡ move InIntermediate c }
+    {
+        match c {
+            '\x18' | '\x1A' | '\x30'..='\x7E' => None,
+            '\x1B' => Some(AnsiMatcher::Escape),
+            _ => Some(AnsiMatcher::EscapeIntermediate),
+        }
+    }
+
+    // DCS, SOS, OSC, PM and APC strings.
+    fn string(c: char) -> Option<AnsiMatcher>
+        ensures { move_of result ≡ move InString c }
+    {
+        match c {
+            '\x07' | '\x18' | '\x1A' | '\u{9C}' => None,
+            '\x1B' => Some(AnsiMatcher::Escape),
+            _ => Some(AnsiMatcher::String),
+        }
     }
 }
 
-#[cycle(csi_entry_escape_escape_intermediate_string)]
-fn csi_entry(unread: &str) -> &str
-    ensures { result.now ≡ behind InCsi unread.now }
+// What stands behind an escape sequence, given what stands behind its ESC.
+pub(crate) fn behind_sequence(text: &str) -> &str
+    ensures { result.now ≡ behind InEscape text.now }
 {
-    let Some((c, rest)) = first(unread) else {
-        return unread;
-    };
-    match c {
-        '\x18' | '\x1A' | '\x40'..='\x7E' => rest,
-        '\x1B' => escape(rest),
-        _ => csi_entry(rest),
+    let mut unread = text;
+    let mut state = AnsiMatcher::Escape;
+    while let Some((c, rest)) = first(unread) {
+        unread = rest;
+        let Some(next) = state.next(c) else {
+            break;
+        };
+        state = next;
     }
-}
-
-#[cycle(csi_entry_escape_escape_intermediate_string)]
-fn escape_intermediate(unread: &str) -> &str
-    ensures { result.now ≡ behind InIntermediate unread.now }
-{
-    let Some((c, rest)) = first(unread) else {
-        return unread;
-    };
-    match c {
-        '\x18' | '\x1A' | '\x30'..='\x7E' => rest,
-        '\x1B' => escape(rest),
-        _ => escape_intermediate(rest),
-    }
-}
-
-// Reads to the end of DCS, SOS, OSC, PM and APC strings.
-#[cycle(csi_entry_escape_escape_intermediate_string)]
-fn string(unread: &str) -> &str
-    ensures { result.now ≡ behind InString unread.now }
-{
-    let Some((c, rest)) = first(unread) else {
-        return unread;
-    };
-    match c {
-        '\x07' | '\x18' | '\x1A' | '\u{9C}' => rest,
-        '\x1B' => escape(rest),
-        _ => string(rest),
-    }
+    unread
 }

@@ -4,7 +4,7 @@ ghost use Rattle.ansi.specs.Refusals.{NotText};
 ghost use Rattle.ansi.specs.Reading.{Reads, Strips, unread, placed, AwareSteps, StrippedSteps};
 ghost use Rattle.std.specs.Iterator.{at_most};
 
-use crate::matcher::{escape, first};
+use crate::matcher::{behind_sequence, first};
 use crate::refusal::{Refusal, read_utf8};
 
 /// An escape sequence, as the part of the text that it is and its place there, or a character.
@@ -63,7 +63,7 @@ impl<'a> Iterator for AnsiAwareChars<'a> {
         let (c, rest) = first(input)?;
         if c == '\x1B' {
             let place = self.place();
-            self.input = escape(rest);
+            self.input = behind_sequence(rest);
             let text = &input[..input.len() - self.input.len()];
             Some(Piece::Escape { text, place })
         } else {
@@ -106,7 +106,7 @@ impl<'a> Iterator for AnsiStrippedChars<'a> {
                 self.input = rest;
                 return Some(c);
             }
-            self.input = escape(rest);
+            self.input = behind_sequence(rest);
         }
         None
     }
