@@ -6,6 +6,7 @@ ghost use Rattle.std.specs.Iterator.{at_most};
 
 use crate::matcher::{behind_sequence, first};
 use crate::refusal::{Refusal, read_utf8};
+use std::convert::AsStr;
 
 /// An escape sequence, as the part of the text that it is and its place there, or a character.
 #[derive(Clone, Copy)]
@@ -81,12 +82,17 @@ pub struct AnsiStrippedChars<'a> {
 }
 
 impl<'a> AnsiStrippedChars<'a> {
+    fn of(input: &'a str) -> AnsiStrippedChars<'a>
+        ensures { Strips input.now result }
+    {
+        AnsiStrippedChars { input }
+    }
+
     /// The characters of a text that comes as bytes; refused where they are not UTF-8.
     pub fn new(text: &'a [u8]) -> Result<AnsiStrippedChars<'a>, Refusal>
         ensures { MatchResult result (Strips text.now) (NotText text.now) }
     {
-        let input = read_utf8(text)?;
-        Ok(AnsiStrippedChars { input })
+        Ok(AnsiStrippedChars::of(read_utf8(text)?))
     }
 }
 
@@ -120,21 +126,11 @@ pub trait AnsiStrippable {
         ensures { Strips (stripped self.now) result };
 }
 
-impl AnsiStrippable for &str {
-    ghost stripped = { λ s. s.now };
+impl<T: AsStr> AnsiStrippable for T {
+    ghost stripped = { T.text };
 
     fn ansi_stripped_chars(&self) -> AnsiStrippedChars<'_> {
-        AnsiStrippedChars { input: *self }
-    }
-}
-
-impl AnsiStrippable for String {
-    ghost stripped = { string_bytes };
-
-    fn ansi_stripped_chars(&self) -> AnsiStrippedChars<'_> {
-        AnsiStrippedChars {
-            input: self.as_str(),
-        }
+        AnsiStrippedChars::of(self.as_str())
     }
 }
 
@@ -146,16 +142,8 @@ pub trait AnsiAware {
         ensures { Reads (text self.now) result };
 }
 
-impl AnsiAware for &str {
-    ghost text = { λ s. s.now };
-
-    fn ansi_aware_chars(&self) -> AnsiAwareChars<'_> {
-        AnsiAwareChars::of(*self)
-    }
-}
-
-impl AnsiAware for String {
-    ghost text = { string_bytes };
+impl<T: AsStr> AnsiAware for T {
+    ghost text = { T.text };
 
     fn ansi_aware_chars(&self) -> AnsiAwareChars<'_> {
         AnsiAwareChars::of(self.as_str())
