@@ -20,9 +20,8 @@ impl fmt::Display for Hex<'_> {
         if self.0.is_empty() {
             return f.write_str("-");
         }
-        for byte in self.0 {
-            f.write_char(to_digit(*byte / 16))?;
-            f.write_char(to_digit(*byte % 16))?;
+        for &byte in self.0 {
+            write!(f, "{byte:02x}")?;
         }
         Ok(())
     }
@@ -58,18 +57,6 @@ fn decode_digits(heap: Global, digits: &[u8]) -> Result<Option<Vec<u8>>, AllocEr
         Ok(Some(bytes))
     } else {
         Ok(None)
-    }
-}
-
-// The hex digit of a number.
-fn to_digit(number: u8) -> char
-    requires { number < 16 }
-    ensures { result ≡ digit_of number }
-{
-    if number < 10 {
-        char::from(b'0' + number)
-    } else {
-        char::from(b'a' + (number - 10))
     }
 }
 
