@@ -131,15 +131,13 @@ fn read(style: StyleSheet, bytes: &[u8]) -> StyleSheet
         expect: Expect::Code,
     };
     let mut n: u16 = 0;
-    let mut rest = bytes;
-    while let Some((b, later)) = rest.split_first() {
-        if *b == b';' {
+    for &b in bytes {
+        if b == b';' {
             pen = pen.tell(n);
             n = 0;
         } else {
-            n = n.saturating_mul(10).saturating_add(u16::from(*b - b'0'));
+            n = n.saturating_mul(10).saturating_add(u16::from(b - b'0'));
         }
-        rest = later;
     }
     pen.tell(n).style
 }
