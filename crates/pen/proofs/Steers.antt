@@ -56,8 +56,8 @@ module _ (s : StyleSheet) (side : Side) (r g b : ℕ) (ns : List ℕ) where
   parts true false e f = green true e ∙ blue false f ∙ dropped s ns
   parts true true e f = green true e ∙ blue true f ∙ narrow (leb b 255) s (pen (painted side (Some (Rgb r g b)) s) Code) ns
 
-pub numbers-steer : NumbersSteer
-numbers-steer = record {
+pub numbers_steer : NumbersSteer
+numbers_steer = record {
   none = λ s. refl;
   alone = alone;
   indexed = λ s side n ns. introduced s side (5 ∷ n ∷ ns) ∙ narrow (leb n 255) s (pen (painted side (Some (AnsiValue n)) s) Code) ns;

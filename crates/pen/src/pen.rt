@@ -130,6 +130,7 @@ fn read(style: StyleSheet, bytes: &[u8]) -> StyleSheet
 }
 
 /// The style after an escape sequence: a colour sequence steers it, any other bytes leave it.
+#[tactic(auto, using(crate::proofs::Steers::numbers_steer))]
 pub fn steer(style: StyleSheet, sequence: &[u8]) -> StyleSheet
     ensures value { result ≡ steered style sequence.now }
     ensures law { NumbersSteer }
