@@ -1,7 +1,6 @@
 // The pieces of a text, and the two iterators over them.
-ghost use Rattle.std.specs.Prelude.{◌≡◌, ℕ, List, length, string_bytes, MatchResult};
+ghost use Rattle.std.specs.Prelude.{◌≡◌, ◌≤◌, ℕ, List, length, string_bytes, MatchResult};
 ghost use Rattle.ansi.specs.Refusals.{NotText};
-ghost use Rattle.ansi.specs.Reading.{Reads, Strips, unread, placed, AwareSteps, StrippedSteps};
 ghost use Rattle.std.specs.Iterator.{at_most};
 
 use crate::matcher::{behind_sequence, first};
@@ -22,9 +21,12 @@ pub struct AnsiAwareChars<'a> {
     input: &'a str,
     // how long the whole text is
     len: usize,
+    ghost within: { length input.now ≤ len },
 }
 
 impl<'a> AnsiAwareChars<'a> {
+    ghost use Rattle.ansi.specs.Reading.{Reads, placed};
+
     fn of(input: &'a str) -> AnsiAwareChars<'a>
         ensures { Reads input.now result }
     {
@@ -45,11 +47,13 @@ impl<'a> AnsiAwareChars<'a> {
     pub fn place(&self) -> usize
         ensures { result ≡ placed self.now }
     {
-        self.len.saturating_sub(self.input.len())
+        self.len - self.input.len()
     }
 }
 
 impl<'a> Iterator for AnsiAwareChars<'a> {
+    ghost use Rattle.ansi.specs.Reading.{unread, AwareSteps};
+
     type Item = Piece<'a>;
 
     ghost can_next = { λ _. Unit {0} };
@@ -82,6 +86,8 @@ pub struct AnsiStrippedChars<'a> {
 }
 
 impl<'a> AnsiStrippedChars<'a> {
+    ghost use Rattle.ansi.specs.Reading.{Strips};
+
     fn of(input: &'a str) -> AnsiStrippedChars<'a>
         ensures { Strips input.now result }
     {
@@ -97,6 +103,8 @@ impl<'a> AnsiStrippedChars<'a> {
 }
 
 impl<'a> Iterator for AnsiStrippedChars<'a> {
+    ghost use Rattle.ansi.specs.Reading.{StrippedSteps};
+
     type Item = char;
 
     ghost can_next = { λ _. Unit {0} };
@@ -120,6 +128,8 @@ impl<'a> Iterator for AnsiStrippedChars<'a> {
 
 /// Constructs an iterator over the characters of a text, its escape sequences left out.
 pub trait AnsiStrippable {
+    ghost use Rattle.ansi.specs.Reading.{Strips};
+
     ghost stripped: { Self → List ℕ };
 
     fn ansi_stripped_chars(&self) -> AnsiStrippedChars<'_>
@@ -136,6 +146,8 @@ impl<T: AsStr> AnsiStrippable for T {
 
 /// Constructs an iterator over the pieces of a text.
 pub trait AnsiAware {
+    ghost use Rattle.ansi.specs.Reading.{Reads};
+
     ghost text: { Self → List ℕ };
 
     fn ansi_aware_chars(&self) -> AnsiAwareChars<'_>
