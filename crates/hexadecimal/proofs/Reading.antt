@@ -9,7 +9,7 @@ use Rattle.std.specs.Option.{option_map}
 -- what follows the digits of some bytes is the digits of the others
 rest-spelt : (vs rest bs : List ℕ) → Bytes bs → digits_of vs ++ rest ≡ digits_of bs → (cs : List ℕ) × Bytes cs × (digits_of cs ≡ rest)
 rest-spelt [] rest bs h e = (bs, h, sym e)
-rest-spelt (v ∷ vs) rest [] h e = let z : ◌≡◌ {A = ℕ} 0 1 = cc in absurd (omega arith)
+rest-spelt (v ∷ vs) rest [] h e = absurd (cc)
 rest-spelt (v ∷ vs) rest (b ∷ bs) h e = rest-spelt vs rest bs h.1 (cc)
 
 -- digits come in pairs
