@@ -19,7 +19,7 @@ run-append s [] b = refl
 run-append s (c ∷ a) b = elim (move s c) as (λ m. elim m [ stop ↦ stop | to t ↦ run t (a ++ b) ] ≡ then (elim m [ stop ↦ stop | to t ↦ run t a ]) b) [ stop ↦ refl | to t ↦ run-append t a b ]
 
 stop≢to : (s : State) → stop ≡ to s → ⊥
-stop≢to s e = let z : ◌≡◌ {A = ℕ} 0 1 = cc in omega arith
+stop≢to s e = cc
 
 -- a machine that is in a state was on the ground nowhere before
 unstopped : (s : State) (cs : List ℕ) → run InEscape cs ≡ to s → (k : ℕ) → run InEscape (take k cs) ≡ stop → ⊥

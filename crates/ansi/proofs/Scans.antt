@@ -1,10 +1,9 @@
 -- The first piece of a text, by the scan.
-use Rattle.std.proofs.Common.{◌≡◌, ℕ, ◌+◌, true, false, cond, eqb, List, [], ◌∷◌, ◌++◌, length, take, drop, IsUtf8, sym, refl, ap, ◌∙◌, append_assoc, append-nil, add-zero, suc-add, zero-add}
-use lib.Seq.{drop-append_seam}
+use Rattle.std.proofs.Common.{◌≡◌, ℕ, ◌+◌, true, false, cond, eqb, List, [], ◌∷◌, ◌++◌, take, drop, IsUtf8, sym, refl, ap, ◌∙◌, append_assoc, append-nil, add-zero}
+use lib.Seq.{drop-append-add, take-append-add}
 use lib.Utf8.{scalar, scalars, encode, encodes}
 use Rattle.std.specs.Char.{len_utf8}
 use Rattle.std.specs.Str.{chars}
-use Rattle.std.proofs.lemmas.List.{drop-drop}
 use Rattle.std.proofs.lemmas.Str.{chars-encodes, encodes-chars, scalars-chars, length-encode}
 use Rattle.std.proofs.str.Laws.{both}
 use Rattle.ansi.specs.Machine.{State, InEscape, stop, to, move}
@@ -13,14 +12,10 @@ use Rattle.ansi.specs.Pieces.{Part, sequence, letter, ground, inside, onward, cl
 
 -- past a character, and up to it
 past : (c n : ℕ) (bs : List ℕ) → drop (len_utf8 c + n) (encode c ++ bs) ≡ drop n bs
-past c n bs = ap (λ k. drop (k + n) (encode c ++ bs)) (sym (length-encode c)) ∙ sym (drop-drop n (length (encode c)) (encode c ++ bs)) ∙ ap (drop n) (drop-append_seam (encode c) bs)
-
-taken : (xs ys : List ℕ) (n : ℕ) → take (length xs + n) (xs ++ ys) ≡ xs ++ take n ys
-taken [] ys n = ap (λ k. take k ys) (zero-add n)
-taken (x ∷ xs) ys n = ap (λ k. take k (x ∷ xs ++ ys)) (suc-add (length xs) n) ∙ ap (λ l. x ∷ l) (taken xs ys n)
+past c n bs = ap (λ k. drop (k + n) (encode c ++ bs)) (sym (length-encode c)) ∙ drop-append-add (encode c) bs n
 
 upto : (c n : ℕ) (bs : List ℕ) → take (len_utf8 c + n) (encode c ++ bs) ≡ encode c ++ take n bs
-upto c n bs = ap (λ k. take (k + n) (encode c ++ bs)) (sym (length-encode c)) ∙ taken (encode c) bs n
+upto c n bs = ap (λ k. take (k + n) (encode c ++ bs)) (sym (length-encode c)) ∙ take-append-add (encode c) bs n
 
 -- a sequence of n more bytes of cs, and then the pieces behind it
 abbrev Closed : List ℕ → List ℕ → ℕ → List Part

@@ -4,3 +4,4 @@ pub mod Law
 pub mod Places
 pub mod Reading
 pub mod Refusals
+pub mod States

@@ -13,6 +13,10 @@ abbrev pub ends : State → List ℕ → ℕ
 ends s [] = 0
 ends s (c ∷ cs) = len_utf8 c + elim (move s c) [ stop ↦ 0 | to t ↦ ends t cs ]
 
+-- what stands behind the sequence of which the text begins with what is unread
+abbrev pub behind : State → List ℕ → List ℕ
+behind s text = drop (ends s (decodes text)) text
+
 -- the text ends at the place
 pub record Ended (text : List ℕ) (at : ℕ) : Type 0 where
   pub chars : from text at ≡ []

@@ -1,5 +1,6 @@
 -- The number and the place of a refusal, and the refusal of a text that is not UTF-8.
-use Rattle.std.specs.Prelude.{◌≡◌, ℕ, List, IsUtf8}
+use Rattle.std.specs.Prelude.{◌≡◌, ℕ, List, [], ◌∷◌, ◌++◌, IsUtf8}
+use Rattle.std.specs.Fmt.{decimal}
 use Rattle.std.specs.Str.{IsValidUpTo}
 use Rattle.ansi.specs.declared.refusal.Refusal.{Refusal}
 use Rattle.ansi.specs.declared.refusal.Refusal.TheVariants.{NotUtf8, Control, NoColour}
@@ -13,6 +14,10 @@ abbrev pub place_of : Refusal → ℕ
 place_of (NotUtf8 place) = place
 place_of (Control place) = place
 place_of (NoColour place) = place
+
+-- what is printed of a refusal: its number, " at ", its place
+abbrev pub shown : Refusal → List ℕ
+shown e = decimal (number_of e) ++ ((32 ∷ 97 ∷ 116 ∷ 32 ∷ []) ++ decimal (place_of e))
 
 -- the text is not UTF-8, and the refusal is number 1 at the first byte of its first ill-formed sequence: the
 -- bytes before it are UTF-8, and no more of them

@@ -1,11 +1,11 @@
 // The pieces of a text, and the two iterators over them.
-ghost use Rattle.std.specs.Prelude.{◌≡◌, ℕ, List, length, string_bytes, MatchResult};
+ghost use Rattle.std.specs.Prelude.{◌≡◌, ◌≤◌, ℕ, List, length, string_bytes, MatchResult};
 ghost use Rattle.ansi.specs.Refusals.{NotText};
-ghost use Rattle.ansi.specs.Reading.{Reads, Strips, unread, placed, AwareSteps, StrippedSteps};
 ghost use Rattle.std.specs.Iterator.{at_most};
 
-use crate::matcher::{AnsiMatcher, first};
+use crate::matcher::{behind_sequence, first};
 use crate::refusal::{Refusal, read_utf8};
+use std::convert::AsStr;
 
 /// An escape sequence, as the part of the text that it is and its place there, or a character.
 #[derive(Clone, Copy)]
@@ -21,9 +21,12 @@ pub struct AnsiAwareChars<'a> {
     input: &'a str,
     // how long the whole text is
     len: usize,
+    ghost within: { length input.now ≤ len },
 }
 
 impl<'a> AnsiAwareChars<'a> {
+    ghost use Rattle.ansi.specs.Reading.{Reads, placed};
+
     fn of(input: &'a str) -> AnsiAwareChars<'a>
         ensures { Reads input.now result }
     {
@@ -37,21 +40,20 @@ impl<'a> AnsiAwareChars<'a> {
     pub fn new(text: &'a [u8]) -> Result<AnsiAwareChars<'a>, Refusal>
         ensures { MatchResult result (Reads text.now) (NotText text.now) }
     {
-        match read_utf8(text) {
-            Ok(input) => Ok(AnsiAwareChars::of(input)),
-            Err(refusal) => Err(refusal),
-        }
+        Ok(AnsiAwareChars::of(read_utf8(text)?))
     }
 
     /// The place in the text at which the next piece begins.
     pub fn place(&self) -> usize
         ensures { result ≡ placed self.now }
     {
-        self.len.saturating_sub(self.input.len())
+        self.len - self.input.len()
     }
 }
 
 impl<'a> Iterator for AnsiAwareChars<'a> {
+    ghost use Rattle.ansi.specs.Reading.{unread, AwareSteps};
+
     type Item = Piece<'a>;
 
     ghost can_next = { λ _. Unit {0} };
@@ -60,21 +62,18 @@ impl<'a> Iterator for AnsiAwareChars<'a> {
 
     ghost remaining = { λ s. at_most (length (unread s)) };
 
+    #[tactic(auto, using(crate::proofs::Takes::cut, crate::proofs::Takes::takes_escape, crate::proofs::Takes::takes_letter))]
     fn next(&mut self) -> Option<Piece<'a>> {
         let input = self.input;
-        match first(input) {
-            None => None,
-            Some(('\x1B', _)) => {
-                let place = self.place();
-                let matcher = AnsiMatcher { input };
-                let (text, rest) = input.split_at(matcher.escape(1));
-                self.input = rest;
-                Some(Piece::Escape { text, place })
-            }
-            Some((c, rest)) => {
-                self.input = rest;
-                Some(Piece::Char(c))
-            }
+        let (c, rest) = first(input)?;
+        if c == '\x1B' {
+            let place = self.place();
+            self.input = behind_sequence(rest);
+            let text = &input[..input.len() - self.input.len()];
+            Some(Piece::Escape { text, place })
+        } else {
+            self.input = rest;
+            Some(Piece::Char(c))
         }
     }
 }
@@ -87,18 +86,25 @@ pub struct AnsiStrippedChars<'a> {
 }
 
 impl<'a> AnsiStrippedChars<'a> {
+    ghost use Rattle.ansi.specs.Reading.{Strips};
+
+    fn of(input: &'a str) -> AnsiStrippedChars<'a>
+        ensures { Strips input.now result }
+    {
+        AnsiStrippedChars { input }
+    }
+
     /// The characters of a text that comes as bytes; refused where they are not UTF-8.
     pub fn new(text: &'a [u8]) -> Result<AnsiStrippedChars<'a>, Refusal>
         ensures { MatchResult result (Strips text.now) (NotText text.now) }
     {
-        match read_utf8(text) {
-            Ok(input) => Ok(AnsiStrippedChars { input }),
-            Err(refusal) => Err(refusal),
-        }
+        Ok(AnsiStrippedChars::of(read_utf8(text)?))
     }
 }
 
 impl<'a> Iterator for AnsiStrippedChars<'a> {
+    ghost use Rattle.ansi.specs.Reading.{StrippedSteps};
+
     type Item = char;
 
     ghost can_next = { λ _. Unit {0} };
@@ -107,71 +113,49 @@ impl<'a> Iterator for AnsiStrippedChars<'a> {
 
     ghost remaining = { λ s. at_most (length s.input.now) };
 
+    #[tactic(auto, using(crate::proofs::Takes::letters_behind, crate::proofs::Takes::letters_next))]
     fn next(&mut self) -> Option<char> {
-        let mut input = self.input;
-        loop {
-            match first(input) {
-                None => {
-                    self.input = input;
-                    return None;
-                }
-                Some(('\x1B', _)) => {
-                    let matcher = AnsiMatcher { input };
-                    input = &input[matcher.escape(1)..];
-                }
-                Some((c, rest)) => {
-                    self.input = rest;
-                    return Some(c);
-                }
+        while let Some((c, rest)) = first(self.input) {
+            if c != '\x1B' {
+                self.input = rest;
+                return Some(c);
             }
+            self.input = behind_sequence(rest);
         }
+        None
     }
 }
 
 /// Constructs an iterator over the characters of a text, its escape sequences left out.
 pub trait AnsiStrippable {
+    ghost use Rattle.ansi.specs.Reading.{Strips};
+
     ghost stripped: { Self → List ℕ };
 
     fn ansi_stripped_chars(&self) -> AnsiStrippedChars<'_>
         ensures { Strips (stripped self.now) result };
 }
 
-impl AnsiStrippable for &str {
-    ghost stripped = { λ s. s.now };
+impl<T: AsStr> AnsiStrippable for T {
+    ghost stripped = { T.text };
 
     fn ansi_stripped_chars(&self) -> AnsiStrippedChars<'_> {
-        AnsiStrippedChars { input: *self }
-    }
-}
-
-impl AnsiStrippable for String {
-    ghost stripped = { string_bytes };
-
-    fn ansi_stripped_chars(&self) -> AnsiStrippedChars<'_> {
-        AnsiStrippedChars {
-            input: self.as_str(),
-        }
+        AnsiStrippedChars::of(self.as_str())
     }
 }
 
 /// Constructs an iterator over the pieces of a text.
 pub trait AnsiAware {
+    ghost use Rattle.ansi.specs.Reading.{Reads};
+
     ghost text: { Self → List ℕ };
 
     fn ansi_aware_chars(&self) -> AnsiAwareChars<'_>
         ensures { Reads (text self.now) result };
 }
 
-impl AnsiAware for &str {
-    ghost text = { λ s. s.now };
-
-    fn ansi_aware_chars(&self) -> AnsiAwareChars<'_> {
-        AnsiAwareChars::of(*self)
-    }
-}
-
-impl AnsiAware for String {
-    ghost text = { string_bytes };
+impl<T: AsStr> AnsiAware for T {
+    ghost text = { T.text };
 
     fn ansi_aware_chars(&self) -> AnsiAwareChars<'_> {
         AnsiAwareChars::of(self.as_str())

@@ -1,6 +1,9 @@
 // Why a text is refused.
-ghost use Rattle.std.specs.Prelude.{◌≡◌, IsUtf8, MatchResult};
-ghost use Rattle.ansi.specs.Refusals.{number_of, place_of, NotText};
+ghost use Rattle.std.specs.Prelude.{◌≡◌, Some, IsUtf8, MatchResult};
+ghost use Rattle.ansi.specs.Refusals.{number_of, place_of, shown, NotText};
+
+use std::error::Error;
+use std::fmt;
 
 /// Why a text is refused. A place is that of the first byte of the first offender.
 #[derive(Clone, Copy, Debug, PartialEq, Eq)]
@@ -34,14 +37,22 @@ impl Refusal {
     }
 }
 
+// The number, and the place.
+impl fmt::Display for Refusal {
+    ghost output = { λ e. Some (shown e) };
+
+    fn fmt<W: fmt::Write>(&self, f: &mut fmt::Formatter<W>) -> fmt::Result {
+        write!(f, "{} at {}", self.number(), self.place())
+    }
+}
+
+impl Error for Refusal {}
+
 /// The text that the bytes are; refused where they are not UTF-8.
 pub fn read_utf8(bytes: &[u8]) -> Result<&str, Refusal>
     ensures { MatchResult result (λ s. (s.now ≡ bytes.now) × IsUtf8 bytes.now) (NotText bytes.now) }
 {
-    match std::str::from_utf8(bytes) {
-        Ok(text) => Ok(text),
-        Err(e) => Err(Refusal::NotUtf8 {
-            place: e.valid_up_to(),
-        }),
-    }
+    std::str::from_utf8(bytes).map_err(|e| Refusal::NotUtf8 {
+        place: e.valid_up_to(),
+    })
 }

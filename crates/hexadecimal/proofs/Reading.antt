@@ -1,58 +1,57 @@
 -- Digits that are read pair by pair.
-use Rattle.std.proofs.Common.{◌≡◌, ℕ, ◌-◌, ◌/◌, ◌%◌, ◌<◌, ◌≤◌, List, [], ◌∷◌, ◌++◌, length, get_or, take, drop, IfOk, Some, None, Ok, Err, codes, Option, Result, sym, refl, ap, ◌∙◌, subst, inl, inr, append_assoc, append-nil, arith, MatchOption}
+use Rattle.std.proofs.Common.{◌≡◌, ℕ, ◌/◌, ◌%◌, ◌<◌, ◌*◌, List, [], ◌∷◌, ◌++◌, length, get_or, IfOk, Some, None, Ok, Err, codes, Option, Result, sym, refl, ap, ◌∙◌, subst, inl, inr, append_assoc, append-nil, length-append, arith, MatchOption}
 use Rattle.hexadecimal.proofs.Writing.{digits_append}
 use Rattle.hexadecimal.specs.Hex.{digit_of, digits_of, Bytes, Spells, Reads, OneAnswer, ReadsBack}
 use Rattle.std.proofs.ByRecursion.{All-push}
-use Rattle.std.proofs.lemmas.List.{take_all}
 use Rattle.std.proofs.lemmas.Bool.Decides.{nat_tests}
 use Rattle.std.specs.Option.{option_map}
 
 -- what follows the digits of some bytes is the digits of the others
 rest-spelt : (vs rest bs : List ℕ) → Bytes bs → digits_of vs ++ rest ≡ digits_of bs → (cs : List ℕ) × Bytes cs × (digits_of cs ≡ rest)
 rest-spelt [] rest bs h e = (bs, h, sym e)
-rest-spelt (v ∷ vs) rest [] h e = let z : ◌≡◌ {A = ℕ} 0 1 = cc in absurd (omega arith)
+rest-spelt (v ∷ vs) rest [] h e = absurd (cc)
 rest-spelt (v ∷ vs) rest (b ∷ bs) h e = rest-spelt vs rest bs h.1 (cc)
 
-pub all_read : (vs rest text : List ℕ) → digits_of vs ++ rest ≡ text → length rest ≡ 0 → digits_of vs ≡ text
-all_read vs [] text so_far e = sym (append-nil (digits_of vs)) ∙ so_far
-all_read vs (x ∷ rest) text so_far e = absurd (omega arith)
+-- digits come in pairs
+even : (cs : List ℕ) → length (digits_of cs) ≡ 2 * length cs
+even [] = refl
+even (c ∷ cs) = let more = even cs in omega arith
+
+pub all_read : (vs rest text : List ℕ) → digits_of vs ++ rest ≡ text → length rest < 2 → length text % 2 ≡ 0 → digits_of vs ≡ text
+all_read vs [] text so_far short pairs = sym (append-nil (digits_of vs)) ∙ so_far
+all_read vs (x ∷ rest) text so_far short pairs = absurd (omega (arith, even vs, ap length so_far, length-append (digits_of vs) (x ∷ rest)))
 
 -- the next pair is a byte
-pub read_more : (vs rest text : List ℕ) → Bytes vs × (digits_of vs ++ rest ≡ text) → (b : ℕ) (ws : List ℕ) → ws ≡ vs ++ b ∷ []
-    → (b < 256) × (digit_of (b / 16) ≡ get_or rest 0 0) × (digit_of (b % 16) ≡ get_or rest 1 0) → 2 ≤ length rest
-    → Bytes ws × (digits_of ws ++ take (length rest - 2) (drop 2 rest) ≡ text)
-read_more vs [] text so_far b ws e pair long = absurd (omega arith)
-read_more vs (x ∷ []) text so_far b ws e pair long = absurd (omega arith)
-read_more vs (x ∷ y ∷ rest) text so_far b ws e pair long =
-    let all : take (length (x ∷ y ∷ rest) - 2) rest ≡ rest = take_all _ rest (omega arith) in
+pub read_more : (vs pair rest text : List ℕ) → Bytes vs → digits_of vs ++ (pair ++ rest) ≡ text → (b : ℕ) (ws : List ℕ) → ws ≡ vs ++ b ∷ []
+    → (b < 256) × (digit_of (b / 16) ≡ get_or pair 0 0) × (digit_of (b % 16) ≡ get_or pair 1 0) → length pair ≡ 2
+    → Bytes ws × (digits_of ws ++ rest ≡ text)
+read_more vs [] rest text bytes so_far b ws e is two = absurd (omega arith)
+read_more vs (x ∷ []) rest text bytes so_far b ws e is two = absurd (omega arith)
+read_more vs (x ∷ y ∷ z ∷ pair) rest text bytes so_far b ws e is two = absurd (omega arith)
+read_more vs (x ∷ y ∷ []) rest text bytes so_far b ws e is two =
     let pushed = digits_append vs (b ∷ []) in
     let joined = append_assoc (digits_of vs) (digits_of (b ∷ [])) rest in
-    (subst Bytes (sym e) (All-push (λ n. n < 256) vs b so_far.0 pair.0), cc)
+    (subst Bytes (sym e) (All-push (λ n. n < 256) vs b bytes is.0), cc)
 
--- digits come in pairs
-not-one : (cs : List ℕ) → length (digits_of cs) ≡ 1 → ⊥
-not-one [] e = omega arith
-not-one (c ∷ cs) e = omega arith
+pub odd-read : (text : List ℕ) → length text % 2 ≡ 1 → (bs : List ℕ) → Bytes bs → digits_of bs ≡ text → ⊥
+odd-read text odd bs h e = omega (arith, even bs, ap length e)
 
-pair_read : (rest cs : List ℕ) → Bytes cs → digits_of cs ≡ rest → 2 ≤ length rest
-    → (b : ℕ) × (b < 256) × (digit_of (b / 16) ≡ get_or rest 0 0) × (digit_of (b % 16) ≡ get_or rest 1 0)
-pair_read rest [] h s long = absurd (omega (arith, ap length s))
-pair_read rest (c ∷ cs) h s long = (c, h.0, ap (λ (l : List ℕ). get_or l 0 0) s, ap (λ (l : List ℕ). get_or l 1 0) s)
+pair_read : (pair rest cs : List ℕ) → Bytes cs → digits_of cs ≡ pair ++ rest → length pair ≡ 2
+    → (b : ℕ) × (b < 256) × (digit_of (b / 16) ≡ get_or pair 0 0) × (digit_of (b % 16) ≡ get_or pair 1 0)
+pair_read [] rest cs h s two = absurd (omega arith)
+pair_read (x ∷ []) rest cs h s two = absurd (omega arith)
+pair_read (x ∷ y ∷ z ∷ pair) rest cs h s two = absurd (omega arith)
+pair_read (x ∷ y ∷ []) rest [] h s two = absurd (omega (arith, ap length s))
+pair_read (x ∷ y ∷ []) rest (c ∷ cs) h s two = (c, h.0, ap (λ (l : List ℕ). get_or l 0 0) s, ap (λ (l : List ℕ). get_or l 1 0) s)
 
-module _ (vs rest text : List ℕ) (so_far : digits_of vs ++ rest ≡ text) where
-  -- one character is left
-  pub odd-read : length rest ≡ 1 → (bs : List ℕ) → Bytes bs → digits_of bs ≡ text → ⊥
-  odd-read one bs h e =
-      let x = rest-spelt vs rest bs h (so_far ∙ sym e) in
-      not-one x.0 (ap length x.2 ∙ one)
-
-  -- the next pair is no byte
-  pub refused-read : 2 ≤ length rest → ((b : ℕ) → b < 256 → digit_of (b / 16) ≡ get_or rest 0 0 → digit_of (b % 16) ≡ get_or rest 1 0 → ⊥)
-      → (bs : List ℕ) → Bytes bs → digits_of bs ≡ text → ⊥
-  refused-read long never bs h e =
-      let x = rest-spelt vs rest bs h (so_far ∙ sym e) in
-      let p = pair_read rest x.0 x.1 x.2 long in
-      never p.0 p.1 p.2 p.3
+-- the next pair is no byte
+pub refused-read : (vs pair rest text : List ℕ) → digits_of vs ++ (pair ++ rest) ≡ text → length pair ≡ 2
+    → ((b : ℕ) → b < 256 → digit_of (b / 16) ≡ get_or pair 0 0 → digit_of (b % 16) ≡ get_or pair 1 0 → ⊥)
+    → (bs : List ℕ) → Bytes bs → digits_of bs ≡ text → ⊥
+refused-read vs pair rest text so_far two never bs h e =
+    let x = rest-spelt vs (pair ++ rest) bs h (so_far ∙ sym e) in
+    let p = pair_read pair rest x.0 x.1 x.2 two in
+    never p.0 p.1 p.2 p.3
 
 digit-one : (m n : ℕ) → m < 16 → n < 16 → digit_of m ≡ digit_of n → m ≡ n
 digit-one m n p q e = grind (arith, nat_tests)
@@ -73,7 +72,7 @@ digits-one (b ∷ bs) (c ∷ cs) p q e =
     cc
 
 not-dash : (bs text : List ℕ) → digits_of bs ≡ text → text ≡ codes "-" → ⊥
-not-dash bs text e d = not-one bs (ap length (e ∙ d))
+not-dash bs text e d = omega (arith, even bs, ap length (e ∙ d))
 
 spells_one : (text bs cs : List ℕ) → Bytes bs → Bytes cs → Spells text bs → Spells text cs → bs ≡ cs
 spells_one text bs cs p q (inl d) (inl e) = digits-one bs cs p q (d ∙ sym e)

@@ -20,9 +20,8 @@ impl fmt::Display for Hex<'_> {
         if self.0.is_empty() {
             return f.write_str("-");
         }
-        for byte in self.0 {
-            f.write_char(to_digit(*byte / 16))?;
-            f.write_char(to_digit(*byte % 16))?;
+        for &byte in self.0 {
+            write!(f, "{byte:02x}")?;
         }
         Ok(())
     }
@@ -45,32 +44,18 @@ pub fn decode(heap: Global, text: &str) -> Result<Option<Vec<u8>>, AllocError>
 fn decode_digits(heap: Global, digits: &[u8]) -> Result<Option<Vec<u8>>, AllocError>
     ensures { IfOk result (λ o. MatchOption o ((bs : List ℕ) → Bytes bs → digits_of bs ≢ digits.now) (λ v. Bytes v.items × (digits_of v.items ≡ digits.now))) }
 {
+    let pairs = digits.chunks_exact(2);
+    if !pairs.remainder().is_empty() {
+        return Ok(None);
+    }
     let mut bytes = Vec::with_capacity(heap, digits.len() / 2)?;
-    let mut rest = digits;
-    while let [upper, lower, tail @ ..] = rest {
-        let Some(byte) = from_digits(*upper, *lower) else {
+    for pair in pairs {
+        let Some(byte) = from_digits(pair[0], pair[1]) else {
             return Ok(None);
         };
         bytes.push(byte)?;
-        rest = tail;
     }
-    if rest.is_empty() {
-        Ok(Some(bytes))
-    } else {
-        Ok(None)
-    }
-}
-
-// The hex digit of a number.
-fn to_digit(number: u8) -> char
-    requires { number < 16 }
-    ensures { result ≡ digit_of number }
-{
-    if number < 10 {
-        char::from(b'0' + number)
-    } else {
-        char::from(b'a' + (number - 10))
-    }
+    Ok(Some(bytes))
 }
 
 // The byte with these two hex digits.
@@ -80,7 +65,7 @@ fn from_digits(upper: u8, lower: u8) -> Option<u8>
     Some(from_digit(upper)? * 16 + from_digit(lower)?)
 }
 
-// The number of a hex digit.
+// The number of a hex digit. `char::to_digit` would take uppercase digits too.
 fn from_digit(character: u8) -> Option<u8>
     ensures { MatchOption result ((n : ℕ) → n < 16 → digit_of n ≢ character) (λ n. (n < 16) × (digit_of n ≡ character)) }
 {

@@ -5,11 +5,11 @@ use Rattle.layout.proofs.Tallies.{tally-put, tally-put-all, tally-ended, tally-o
 use Rattle.layout.proofs.Rooms.{fits-put, fits-put-all, fits-first, fits-ended, fits-within, closed-within, folding-within, newline-within, run_room, row_room, newline-room}
 use Rattle.layout.proofs.Grow.{grows-written, grows-closed}
 
-pub counts-follow : CountsFollow
-counts-follow = record { closes = tally-closed; puts = tally-put; puts-all = tally-put-all; ends = tally-ended; writes = tally-of-written; fitting = tally-fits; text-fitting = tally-written }
+pub counts_follow : CountsFollow
+counts_follow = record { closes = tally-closed; puts = tally-put; puts-all = tally-put-all; ends = tally-ended; writes = tally-of-written; fitting = tally-fits; text-fitting = tally-written }
 
-pub fits-before : FitsBefore
-fits-before = record {
+pub fits_before : FitsBefore
+fits_before = record {
   piece-before = fits-put;
   pieces-before = fits-put-all;
   first_piece = fits-first;

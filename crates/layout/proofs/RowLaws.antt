@@ -43,21 +43,21 @@ hashes k h us ws (last _ w fair some fed) t e = ((t, inl (fed ∙ ap (λ n. fed_
 hashes k h us ws (line _ w s vs rows fair fed more) t e = ((t, inr (s, fed ∙ ap (λ n. fed_inks k n (inks_of w.runs ++ (ink s (letter 10) ∷ []))) e)), hashes k (opening k s) vs rows more s refl)
 hashes k h us ws (fold _ w s c vs rows fair other over fed more) t e = ((t, inl (fed ∙ ap (λ n. fed_inks k n (inks_of w.runs)) e)), hashes k (opening k s) (ink s (letter c) ∷ vs) rows more s refl)
 
-pub rows-law : RowsLaw
-rows-law = record {
+pub rows_law : RowsLaw
+rows_law = record {
   breaks = λ k broad narrow ws a. rows-break k broad narrow ws a;
   carries = λ k broad narrow ws a. carries k k.seed _ _ (rows-break k broad narrow ws a);
   characters = λ k broad narrow ws a. ap chars_of (carries k k.seed _ _ (rows-break k broad narrow ws a)) ∙ chars-without (inks_given ws);
   widths = λ k broad narrow ws a. widths k k.seed _ _ (rows-break k broad narrow ws a);
 }
 
-pub hash-law : HashLaw
-hash-law k broad narrow ws a = hashes k k.seed _ _ (rows-break k broad narrow ws a) plain refl
+pub hash_law : HashLaw
+hash_law k broad narrow ws a = hashes k k.seed _ _ (rows-break k broad narrow ws a) plain refl
 
-pub equal-writes : EqualWrites
-equal-writes k f vs ws e = ap (drawn k f) e
+pub equal_writes : EqualWrites
+equal_writes k f vs ws e = ap (drawn k f) e
 
 -- a hash fed with bytes and then with more
-pub folded-append : (step : ℕ → ℕ → ℕ) (h : ℕ) (xs ys : List ℕ) → folded step (folded step h xs) ys ≡ folded step h (xs ++ ys)
-folded-append step h [] ys = refl
-folded-append step h (x ∷ xs) ys = folded-append step (step h x) xs ys
+pub folded_append : (step : ℕ → ℕ → ℕ) (h : ℕ) (xs ys : List ℕ) → folded step (folded step h xs) ys ≡ folded step h (xs ++ ys)
+folded_append step h [] ys = refl
+folded_append step h (x ∷ xs) ys = folded_append step (step h x) xs ys

@@ -14,7 +14,7 @@ use Rattle.ansi.specs.Machine.{InCsi, InEscape, stop, to, move}
 use Rattle.ansi.specs.Pieces.{Part, sequence, letter, bytes, joined, Mode, ground, inside, onward, closed, after, done, rest, scan, pieces}
 use Rattle.pen.specs.Sequences.{csi, parameters, between, is_colour}
 use Rattle.pen.specs.Checks.{Accepted, is_barred, offence, or_else, first_offence}
-use Rattle.pen.proofs.Sequences.{colours-told}
+use Rattle.pen.proofs.Sequences.{colours_told}
 
 -- a colour sequence, or a character that is taken
 abbrev pub Fine : Part → Type 0
@@ -75,7 +75,7 @@ gives-letter c other sound more =
 
 gives_part : (p : Part) → Fine p → (more : List ℕ) → pieces (bytes p ++ more) ≡ p ∷ pieces more
 gives_part (sequence bs) h more =
-    let s = colours-told.sound bs h in
+    let s = colours_told.sound bs h in
     let e = s.0 in
     ap (λ l. pieces (l ++ more)) e ∙ gives-csi (between bs) (inner-parameters (between bs) s.1) more ∙ ap (λ l. sequence l ∷ pieces more) (sym e)
 gives_part (letter c) h more = gives-letter c (not-escape c h.0 (eqb c 27) refl) h.1 more
@@ -152,7 +152,7 @@ accepted-fine text a = fine-parts (pieces text) (clean-parts (pieces text) 0 a.c
 -- and such pieces, joined, are an accepted text again
 utf8-part : (p : Part) → Fine p → IsUtf8 (bytes p)
 utf8-part (sequence bs) h =
-    let s = colours-told.sound bs h in
+    let s = colours_told.sound bs h in
     subst IsUtf8 (sym s.0) (IsUtf8-from_ascii (csi (between bs) 109) (ascii-csi (between bs) (inner-parameters (between bs) s.1)))
 utf8-part (letter c) h = IsUtf8-encode c h.1
 

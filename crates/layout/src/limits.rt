@@ -5,6 +5,7 @@ ghost use Rattle.layout.specs.Counting.{CountsFollow, FitsBefore};
 
 /// Whether these counts of a frame are within the limits. What a frame counts after a text is told by what it counted
 /// before.
+#[tactic(auto, using(crate::proofs::Laws::counts_follow))]
 pub fn within_limits(bytes: usize, runs: usize, rows: usize) -> bool
     ensures value { result ≡ within_limits bytes runs rows }
     ensures law { CountsFollow }
@@ -14,6 +15,7 @@ pub fn within_limits(bytes: usize, runs: usize, rows: usize) -> bool
 
 /// Whether the end of a row adds one: `always`, or where it has runs or the current run joins it. What fits behind it
 /// fitted before.
+#[tactic(auto, using(crate::proofs::Laws::fits_before))]
 pub fn closing_adds(always: bool, begun: bool, text: bool, bare: bool) -> bool
     ensures value { result ≡ (always || ((text || not bare) || begun)) }
     ensures law { FitsBefore }

@@ -52,8 +52,8 @@ shape (a ∷ b ∷ c ∷ t) h =
     let rest = snoc c t ∙ (λ i. front i ++ (back i ∷ [])) in
     (λ i. first i ∷ second i ∷ rest i, s.1)
 
-pub colours-told : ColoursTold
-colours-told = record {
+pub colours_told : ColoursTold
+colours_told = record {
   sound = shape;
   complete = λ ms bs h. (ap is_colour h.0 ∙ told-csi ms h.1, ap between h.0 ∙ between-csi ms 109);
 }

@@ -1,5 +1,5 @@
 -- What the numbers of a colour sequence mean, and that large ones need no more than 16 bits.
-use Rattle.std.proofs.Common.{◌≡◌, ℕ, ◌+◌, ◌-◌, ◌*◌, ◌<◌, min, Bool, true, false, cond, ◌&&◌, eqb, leb, List, [], ◌∷◌, Some, sym, refl, ap, ◌∙◌, inl, inr, arith}
+use Rattle.std.proofs.Common.{◌≡◌, ℕ, ◌+◌, ◌-◌, ◌*◌, ◌<◌, min, Bool, true, false, cond, ◌&&◌, eqb, leb, List, [], ◌∷◌, length, get_or, drop, add-one, drop-cons, Some, sym, refl, ap, ◌∙◌, inl, inr, arith}
 use Rattle.std.proofs.lemmas.Bool.{cases_Bool, leb-true, leb-false}
 use Rattle.std.proofs.lemmas.Bool.Decides.{nat_tests}
 use Rattle.style.specs.declared.color.Color.TheVariants.{AnsiValue, Rgb}
@@ -56,8 +56,8 @@ module _ (s : StyleSheet) (side : Side) (r g b : ℕ) (ns : List ℕ) where
   parts true false e f = green true e ∙ blue false f ∙ dropped s ns
   parts true true e f = green true e ∙ blue true f ∙ narrow (leb b 255) s (pen (painted side (Some (Rgb r g b)) s) Code) ns
 
-pub numbers-steer : NumbersSteer
-numbers-steer = record {
+pub numbers_steer : NumbersSteer
+numbers_steer = record {
   none = λ s. refl;
   alone = alone;
   indexed = λ s side n ns. introduced s side (5 ∷ n ∷ ns) ∙ narrow (leb n 255) s (pen (painted side (Some (AnsiValue n)) s) Code) ns;
@@ -116,3 +116,7 @@ reads-numbers (b ∷ bs) p m =
       | true ↦ ap (λ q. read_from q 0 bs) (told-cut p m) ∙ reads-numbers bs (told p m) 0
       | false ↦ ap (λ n. read_from p n bs) more ∙ reads-numbers bs p (m * 10 + (b - 48))
     ]
+
+-- the next of the bytes that are left to read
+pub next_byte : (bs : List ℕ) (i : ℕ) → i < length bs → drop i bs ≡ get_or bs i 0 ∷ drop (i + 1) bs
+next_byte bs i inside = rw (add-one, drop-cons bs i 0)

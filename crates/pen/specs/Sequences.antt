@@ -1,6 +1,7 @@
 -- Colour sequences: control sequences whose final byte is m (ECMA-48, SGR).
 use Rattle.std.specs.Prelude.{◌≡◌, ℕ, ◌-◌, Bool, true, ◌&&◌, ◌||◌, List, [], ◌∷◌, ◌++◌, length, take, drop, ◌==◌, nat_le, slice_index}
 use Rattle.std.specs.Char.{is_ascii_digit}
+use Rattle.std.specs.List.{list_all}
 
 -- a control sequence: ESC [, what stands between, and the final byte
 abbrev pub csi : List ℕ → ℕ → List ℕ
@@ -8,8 +9,7 @@ csi ms last = 27 ∷ 91 ∷ (ms ++ (last ∷ []))
 
 -- each byte is a digit or a semicolon
 abbrev pub parameters : List ℕ → Bool
-parameters [] = true
-parameters (b ∷ bs) = (is_ascii_digit b || b == 59) && parameters bs
+parameters bs = list_all (λ b. is_ascii_digit b || b == 59) bs
 
 -- the bytes are a colour sequence with the parameters ms
 abbrev pub Colours : List ℕ → List ℕ → Type 0

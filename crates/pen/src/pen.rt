@@ -1,7 +1,8 @@
 // The pen that colour sequences steer.
-ghost use Rattle.std.specs.Prelude.{◌≡◌, true};
-ghost use Rattle.pen.specs.Pens.{painted, coded, told, after, numbers, steered, NumbersSteer};
+ghost use Rattle.std.specs.Prelude.{◌≡◌, true, Some};
+ghost use Rattle.pen.specs.Pens.{painted, coded, pen, told, after, numbers, steered, NumbersSteer};
 ghost use Rattle.pen.specs.Sequences.{parameters};
+ghost use Rattle.pen.specs.declared.pen.Expect.TheVariants.{Code};
 
 use crate::sequence::colour_parameters;
 use style::{Attributes, Color, StyleSheet};
@@ -42,7 +43,8 @@ fn paint(style: StyleSheet, side: Side, color: Option<Color>) -> StyleSheet
     }
 }
 
-// What a number alone does.
+// What a number alone does. Each arm is a line of ECMA-48's table; arms that are joined would have to be told apart
+// again by their numbers.
 fn set_code(style: StyleSheet, n: u16) -> StyleSheet
     ensures { result ≡ coded style n }
 {
@@ -67,56 +69,41 @@ impl Pen {
     fn tell(self, n: u16) -> Pen
         ensures { result ≡ told self n }
     {
-        let style = self.style;
         match self.expect {
             Expect::Code => match n {
-                38 => Pen {
-                    style,
-                    expect: Expect::Form(Side::Fore),
-                },
-                48 => Pen {
-                    style,
-                    expect: Expect::Form(Side::Back),
-                },
+                38 => self.expecting(Expect::Form(Side::Fore)),
+                48 => self.expecting(Expect::Form(Side::Back)),
                 _ => Pen {
-                    style: set_code(style, n),
-                    expect: Expect::Code,
+                    style: set_code(self.style, n),
+                    ..self
                 },
             },
             Expect::Form(side) => match n {
-                5 => Pen {
-                    style,
-                    expect: Expect::Index(side),
-                },
-                2 => Pen {
-                    style,
-                    expect: Expect::Red(side),
-                },
-                _ => Pen {
-                    style,
-                    expect: Expect::Dropped,
-                },
+                5 => self.expecting(Expect::Index(side)),
+                2 => self.expecting(Expect::Red(side)),
+                _ => self.expecting(Expect::Dropped),
             },
-            Expect::Index(side) if n <= 255 => Pen {
-                style: paint(style, side, Some(Color::AnsiValue(n as u8))),
-                expect: Expect::Code,
-            },
-            Expect::Red(side) if n <= 255 => Pen {
-                style,
-                expect: Expect::Green(side, n as u8),
-            },
-            Expect::Green(side, r) if n <= 255 => Pen {
-                style,
-                expect: Expect::Blue(side, r, n as u8),
-            },
-            Expect::Blue(side, r, g) if n <= 255 => Pen {
-                style: paint(style, side, Some(Color::rgb(r, g, n as u8))),
-                expect: Expect::Code,
-            },
-            _ => Pen {
-                style,
-                expect: Expect::Dropped,
-            },
+            Expect::Index(side) if n <= 255 => self.painted(side, Color::AnsiValue(n as u8)),
+            Expect::Red(side) if n <= 255 => self.expecting(Expect::Green(side, n as u8)),
+            Expect::Green(side, r) if n <= 255 => self.expecting(Expect::Blue(side, r, n as u8)),
+            Expect::Blue(side, r, g) if n <= 255 => self.painted(side, Color::rgb(r, g, n as u8)),
+            _ => self.expecting(Expect::Dropped),
+        }
+    }
+
+    fn expecting(self, expect: Expect) -> Pen
+        ensures { result ≡ pen self.style expect }
+    {
+        Pen { expect, ..self }
+    }
+
+    // The pen after a colour was read.
+    fn painted(self, side: Side, color: Color) -> Pen
+        ensures { result ≡ pen (painted side (Some color) self.style) Code }
+    {
+        Pen {
+            style: paint(self.style, side, Some(color)),
+            expect: Expect::Code,
         }
     }
 }
@@ -131,20 +118,19 @@ fn read(style: StyleSheet, bytes: &[u8]) -> StyleSheet
         expect: Expect::Code,
     };
     let mut n: u16 = 0;
-    let mut rest = bytes;
-    while let Some((b, later)) = rest.split_first() {
-        if *b == b';' {
+    for &b in bytes {
+        if b == b';' {
             pen = pen.tell(n);
             n = 0;
         } else {
-            n = n.saturating_mul(10).saturating_add(u16::from(*b - b'0'));
+            n = n.saturating_mul(10).saturating_add(u16::from(b - b'0'));
         }
-        rest = later;
     }
     pen.tell(n).style
 }
 
 /// The style after an escape sequence: a colour sequence steers it, any other bytes leave it.
+#[tactic(auto, using(crate::proofs::Steers::numbers_steer))]
 pub fn steer(style: StyleSheet, sequence: &[u8]) -> StyleSheet
     ensures value { result ≡ steered style sequence.now }
     ensures law { NumbersSteer }

@@ -9,7 +9,7 @@ use Rattle.style.specs.Styles.{plain}
 use Rattle.ansi.specs.Pieces.{Part, sequence, letter, pieces}
 use Rattle.pen.specs.Sequences.{csi, parameters, between}
 use Rattle.pen.specs.Pens.{after, numbers}
-use Rattle.pen.proofs.Sequences.{colours-told}
+use Rattle.pen.proofs.Sequences.{colours_told}
 use Rattle.layout.specs.Frames.{Run}
 use Rattle.layout.proofs.Seams.{accepted-fine}
 use Rattle.terminal.specs.Pages.{Page, at, ink}
@@ -68,7 +68,7 @@ module _ (cells : ℕ → ℕ) (w : ℕ) where
   -- a colour sequence steers the pen by its numbers
   takes-colouring : (v : View) (s : StyleSheet) (ns : List ℕ) → 0 < length ns → AllByRecursion (λ m. m < 2 ^ 64) ns → Takes (desk v s) (colouring ns) (desk v (after s ns))
   takes-colouring v s ns some small =
-      let told = colours-told.complete (spelt ns) (colouring ns) (refl, parameters-spelt ns small) in
+      let told = colours_told.complete (spelt ns) (colouring ns) (refl, parameters-spelt ns small) in
       takes-as (desk v s) (step cells w (desk v s) (sequence (colouring ns))) _ (colouring ns)
       (takes-parts (desk v s) (colouring ns) (sequence (colouring ns) ∷ []) (gives-csi (spelt ns) 109 (inner-parameters (spelt ns) (parameters-spelt ns small)) (omega arith) (omega arith)))
       (λ i. desk (heeded cells w (colour-asks (colouring ns) told.0 i) v) (steered-colouring s ns some small i))

@@ -10,7 +10,7 @@ use Rattle.ansi.specs.Pieces.{Part, sequence, letter}
 use Rattle.pen.specs.Sequences.{parameters, between, is_colour}
 use Rattle.pen.specs.Pens.{steered}
 use Rattle.pen.specs.Checks.{is_barred}
-use Rattle.pen.proofs.Sequences.{colours-told}
+use Rattle.pen.proofs.Sequences.{colours_told}
 use Rattle.layout.specs.Inks.{is_line}
 use Rattle.layout.proofs.Seams.{Fine}
 use Rattle.terminal.specs.Pages.{Cell, glyph, at, spread, inked}
@@ -65,7 +65,7 @@ none-asked false y z n = refl
 
 pub colour-asks : (bs : List ℕ) → is_colour bs ≡ true → asked bs ≡ None
 colour-asks bs h =
-    let last : final bs ≡ 109 = ap final (colours-told.sound bs h).0 ∙ final-csi (between bs) 109 in
+    let last : final bs ≡ 109 = ap final (colours_told.sound bs h).0 ∙ final-csi (between bs) 109 in
     ap (λ l. cond (is_control bs) (cond (parameters (between bs)) (ordered (first_number (between bs)) l) (cond (bytes_eq (between bs) (63 ∷ 50 ∷ 53 ∷ [])) (lit l) None)) None) last
     ∙ none-asked (is_control bs) (parameters (between bs)) (bytes_eq (between bs) (63 ∷ 50 ∷ 53 ∷ [])) (first_number (between bs))
 

@@ -6,7 +6,7 @@ use Rattle.style.specs.declared.color.Color.{Color}
 use Rattle.style.specs.declared.style.StyleSheet.{StyleSheet}
 use Rattle.style.specs.Styles.{with_fg, with_bg}
 use Rattle.pen.specs.Pens.{after, numbers, steered}
-use Rattle.pen.proofs.Sequences.{colours-told}
+use Rattle.pen.proofs.Sequences.{colours_told}
 use Rattle.stream.proofs.Numbers.{reads-spelt, parameters-spelt}
 use Rattle.stream.specs.Bytes.{spelt, colouring, setting, coloured, Octets}
 
@@ -17,7 +17,7 @@ wider (n ∷ ns) h = (omega arith, wider ns h.1)
 -- a colour sequence that is sent steers the pen by its numbers
 pub steered-colouring : (s : StyleSheet) (ns : List ℕ) → 0 < length ns → AllByRecursion (λ n. n < 2 ^ 64) ns → steered s (colouring ns) ≡ after s ns
 steered-colouring s ns some small =
-    let told = colours-told.complete (spelt ns) (colouring ns) (refl, parameters-spelt ns small) in
+    let told = colours_told.complete (spelt ns) (colouring ns) (refl, parameters-spelt ns small) in
     let is = ap numbers told.1 ∙ reads-spelt ns some small in
     λ i. cond (told.0 i) (after s (is i)) s
 

@@ -8,13 +8,13 @@ use Rattle.ansi.specs.Law.{Lawful}
 use Rattle.ansi.proofs.Laws.{lawful}
 use Rattle.pen.specs.Sequences.{between, is_colour}
 use Rattle.pen.specs.Checks.{Accepted}
-use Rattle.pen.proofs.Sequences.{colours-told}
+use Rattle.pen.proofs.Sequences.{colours_told}
 use Rattle.layout.proofs.Seams.{Fine, accepted-fine}
 use Rattle.stream.proofs.Sequences.{Gives, gives-join, gives-csi, gives-letter, inner-parameters}
 
 gives-colour : (bs : List ℕ) → is_colour bs ≡ true → Gives bs (sequence bs ∷ [])
 gives-colour bs h =
-    let s = colours-told.sound bs h in
+    let s = colours_told.sound bs h in
     subst (λ l. Gives l (sequence l ∷ [])) (sym s.0) (gives-csi (between bs) 109 (inner-parameters (between bs) s.1) (omega arith) (omega arith))
 
 gives-lawful : (ps : List Part) (bs : List ℕ) → Lawful bs ps → AllByRecursion Fine ps → Gives bs ps

@@ -1,23 +1,25 @@
-use Rattle.std.proofs.Common.{◌≡◌, ◌≤◌, length, vec_items, rules}
+use Rattle.std.proofs.Common.{◌++◌, ap, sym, ◌∙◌, vec_items, rules}
+use Rattle.hexadecimal.specs.Hex.{digits_of}
 use Rattle.hexadecimal.proofs.Reading.{all_read, odd-read, refused-read, read_more}
 use Rattle.hexadecimal.proofs.decode_digits.Goals as goal
 
-pub returns-in_default-from_digits : goal.returns-in_default-from_digits
-returns-in_default-from_digits c =
-    let long : 2 ≤ length c.loop-rest.rest.now = search rules in
-    refused-read _ _ _ c.loop-rest.invariant.1 long c.in_default-from_digits.ensures
+pub returns-then-not-is_empty : goal.returns-then-not-is_empty
+returns-then-not-is_empty c = odd-read _ (search rules)
 
-pub loop-rest-preserved : goal.loop-rest-preserved
-loop-rest-preserved c =
-    let long : 2 ≤ length c.loop-rest.rest.now = search rules in
-    read_more _ _ _ c.loop-rest.invariant c.in-Some.byte (vec_items c.push.new.self) c.in_ok-push.ensures.items c.in-Some.ensures long
+pub returns-in_default : goal.returns-in_default
+returns-in_default c =
+    let bytes = vec_items c.loop-pair.bytes in
+    let next = c.in-Some.ensures.steps.1 in
+    let so_far = ap (λ l. digits_of bytes ++ l) (sym next.0) ∙ c.loop-pair.invariant.1 in
+    refused-read bytes c.in-Some.pair.now _ _ so_far (next.1 ∙ c.loop-pair.invariant.2) c.in_default.ensures
 
-pub returns-then-is_empty : goal.returns-then-is_empty
-returns-then-is_empty c =
-    let none : length c.loop-rest.rest.now ≡ 0 = search rules in
-    (c.loop-rest.invariant.0, all_read _ _ _ c.loop-rest.invariant.1 none)
+pub loop-pair-preserved : goal.loop-pair-preserved
+loop-pair-preserved c =
+    let bytes = vec_items c.loop-pair.bytes in
+    let next = c.in-Some.ensures.steps.1 in
+    let so_far = ap (λ l. digits_of bytes ++ l) (sym next.0) ∙ c.loop-pair.invariant.1 in
+    let more = read_more bytes c.in-Some.pair.now _ _ c.loop-pair.invariant.0 so_far c.in-Some-from_digits.byte (vec_items c.push.new.self) c.in_ok-push.ensures.items c.in-Some-from_digits.ensures (next.1 ∙ c.loop-pair.invariant.2) in
+    (more.0, more.1, c.in-Some.ensures.steps.0 ∙ c.loop-pair.invariant.2)
 
-pub returns-else-is_empty : goal.returns-else-is_empty
-returns-else-is_empty c =
-    let one : length c.loop-rest.rest.now ≡ 1 = search rules in
-    odd-read _ _ _ c.loop-rest.invariant.1 one
+pub returns : goal.returns
+returns c = (c.loop-pair.invariant.0, all_read _ _ _ c.loop-pair.invariant.1 (search rules) (search rules))

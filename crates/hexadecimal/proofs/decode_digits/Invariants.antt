@@ -1,10 +1,8 @@
-use Rattle.std.proofs.Common.{◌≡◌, ◌++◌, length, vec_items}
+use Rattle.std.proofs.Common.{◌≡◌, ◌++◌, vec_items}
+use Rattle.std.specs.Slice.Iter.{chunks_exact_rest, chunks_exact_size}
 use Rattle.hexadecimal.specs.Hex.{Bytes, digits_of}
 use Rattle.hexadecimal.proofs.decode_digits.Given as goal
 
 -- the bytes so far are what stands before the rest
-abbrev pub invariant-loop-rest : goal.invariant-loop-rest
-invariant-loop-rest l = Bytes (vec_items l.bytes) × (digits_of (vec_items l.bytes) ++ l.rest ≡ l.initial.rest)
-
-abbrev pub decreases-loop-rest : goal.decreases-loop-rest
-decreases-loop-rest l = length l.rest
+abbrev pub invariant-loop-pair : goal.invariant-loop-pair
+invariant-loop-pair l = Bytes (vec_items l.bytes) × (digits_of (vec_items l.bytes) ++ chunks_exact_rest l.pair-iterator ≡ l.digits) × (chunks_exact_size l.pair-iterator ≡ 2)

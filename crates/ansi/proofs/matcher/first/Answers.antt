@@ -18,10 +18,12 @@ begins text rest c u e =
     let some = (len_utf8_bounds c).0 in
     record { after = behind; shorter = omega arith; chars = chars_past_char _ _ _ u e ∙ ap (λ l. c ∷ chars l) behind; long = cut.0; cut = cut }
 
-pub returns-in-None : goal.returns-in-None
-returns-in-None c = ended _ (ap length (sym c.chars-chars.ensures.rest) ∙ c.in-None.ensures.steps.0.0)
+pub returns-in_err-c : goal.returns-in_err-c
+returns-in_err-c c =
+    let none : Ended c.args.text.now 0 = ended _ (ap length (sym c.chars-chars.ensures.rest) ∙ c.in_err-c.ensures.steps.0.0) in
+    search rules
 
-pub returns-in-Some : goal.returns-in-Some
-returns-in-Some c =
+pub returns : goal.returns
+returns c =
     let text : IsUtf8 c.args.text.now = search rules in
-    begins _ _ _ text (cc c.in-Some.ensures.steps.0)
+    begins _ _ _ text (cc c.in_ok-c.ensures.steps.0)

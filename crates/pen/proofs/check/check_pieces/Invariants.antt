@@ -1,7 +1,7 @@
 use Rattle.std.proofs.Common.{◌≡◌, ◌+◌, length}
 use Rattle.ansi.specs.Reading.{remaining, unread}
 use Rattle.pen.specs.Checks.{first_offence}
-use Rattle.pen.proofs.check.first_offence.Given as goal
+use Rattle.pen.proofs.check.check_pieces.Given as goal
 
 -- what is left has the first offence of the whole, and begins at the place
 abbrev pub invariant-loop-piece : goal.invariant-loop-piece

@@ -1,6 +1,6 @@
 use Rattle.std.proofs.Common.{rules}
 use Rattle.ansi.proofs.Runs.{strips}
-use Rattle.ansi.proofs.pieces.RefStrAnsiStrippable.ansi_stripped_chars.Goals as goal
+use Rattle.ansi.proofs.pieces.AnsiStrippedChars.of.Goals as goal
 
 pub returns : goal.returns
 returns c = strips _ _ (search rules) (search rules)

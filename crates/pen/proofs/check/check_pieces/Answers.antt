@@ -9,7 +9,7 @@ use Rattle.ansi.specs.Pieces.{bytes}
 use Rattle.ansi.specs.Reading.{part, remaining, unread, Takes}
 use Rattle.pen.specs.Checks.{is_barred, offence, or_else, first_offence}
 use Rattle.pen.specs.Sequences.{is_colour}
-use Rattle.pen.proofs.check.first_offence.Goals as goal
+use Rattle.pen.proofs.check.check_pieces.Goals as goal
 
 -- past a piece that is no offence
 module _ (s t : AnsiAwareChars) (p : Piece) (at : ℕ) (takes : Takes s p t) where

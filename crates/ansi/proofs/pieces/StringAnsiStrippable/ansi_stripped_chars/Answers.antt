@@ -1,6 +1,0 @@
-use Rattle.std.proofs.Common.{rules}
-use Rattle.ansi.proofs.Runs.{strips}
-use Rattle.ansi.proofs.pieces.StringAnsiStrippable.ansi_stripped_chars.Goals as goal
-
-pub returns : goal.returns
-returns c = strips _ _ (search rules) (search rules)
