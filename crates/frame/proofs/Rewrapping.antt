@@ -1,8 +1,6 @@
 -- What wrapping anew makes, told by counts, and how far counts grow.
-use Rattle.std.proofs.Common.{◌≡◌, ℕ, zero, suc, ◌+◌, ◌-◌, ◌*◌, ◌<◌, ◌≤◌, Bool, true, false, cond, ◌||◌, eqb, ltb, List, [], ◌∷◌, length, get_or, take, IsUtf8, fold, sym, refl, ap, ◌∙◌, subst, arith, length-append}
+use Rattle.std.proofs.Common.{◌≡◌, ℕ, ◌+◌, ◌-◌, ◌<◌, ◌≤◌, Bool, true, false, cond, ◌||◌, eqb, ltb, List, [], ◌∷◌, length, IsUtf8, fold, sym, refl, ap, ◌∙◌, subst, arith, length-append}
 use lib.Utf8.{encode}
-use Rattle.std.proofs.lemmas.List.{get_or_past, take_all}
-use Rattle.std.proofs.lemmas.List.Sums.{fold_more}
 use Rattle.std.proofs.lemmas.Bool.{cond_both}
 use Rattle.std.proofs.lemmas.Str.{length-encode, len_utf8_bounds}
 use Rattle.style.specs.declared.style.StyleSheet.{StyleSheet}
@@ -16,7 +14,6 @@ use Rattle.layout.specs.Tally.{Tally, Within, tally_of, tally_joins, tally_close
 use Rattle.layout.proofs.Rooms.{fits-within}
 use Rattle.layout.specs.Writing.{some, run, closed, fresh, put_all, styled, ended, written, rewrite_run, rewrite_row, rewrapped}
 use Rattle.layout.proofs.Tallies.{style-ended, style-put-all, tally-fits, tally-put-all, tally-of-written}
-use Rattle.store.specs.Piles.{no_run, no_row}
 use Rattle.store.proofs.Found.{bytes-held, rows-count, runs-held}
 use Rattle.frame.specs.Counts.{counts_of, Room, counting}
 use Rattle.frame.specs.Drafts.{frame_of, rule_at}

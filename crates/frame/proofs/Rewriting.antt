@@ -1,12 +1,9 @@
 -- What has room wrapped anew has room for each step of the writing.
-use Rattle.std.proofs.Common.{◌≡◌, ℕ, ◌+◌, ◌<◌, ◌≤◌, true, List, [], ◌∷◌, length, get_or, drop, fold, sym, ap, ◌∙◌, subst}
-use Rattle.std.proofs.lemmas.List.{drop_all, drop_more}
-use Rattle.style.specs.declared.style.StyleSheet.{StyleSheet}
+use Rattle.std.proofs.Common.{◌≡◌, true, List, [], ◌∷◌, fold, sym, ap, ◌∙◌, subst}
 use Rattle.layout.specs.Frames.{Run, Row, Frame, Rule}
 use Rattle.layout.specs.Tally.{Within, Grows, tally_of}
-use Rattle.layout.specs.Writing.{closed, fresh, styled, written, rewrite_run, rewrite_row, rewrapped}
+use Rattle.layout.specs.Writing.{closed, fresh, styled, rewrite_run, rewrite_row, rewrapped}
 use Rattle.layout.proofs.Grow.{grows_self, grows-join, grows-closed, grows-written, within-grows}
-use Rattle.store.specs.Piles.{no_run, no_row}
 
 module _ (k : Rule) where
   grows-runs : (f : Frame) (rs : List Run) → Grows (tally_of f) (tally_of (fold (rewrite_run k) f rs))

@@ -1,6 +1,6 @@
--- The number of each refusal, and its place where it has one.
-use Rattle.std.specs.Prelude.{ℕ, Some, None, Option}
-use Rattle.ansi.specs.Refusals.{number_of as text_number, place_of as text_place}
+-- The number of each refusal, its place where it has one, and what is printed of it.
+use Rattle.std.specs.Prelude.{ℕ, List, Some, None, Option, decimal}
+use Rattle.ansi.specs.Refusals.{number_of as text_number, place_of as text_place, shown as text_shown}
 use Rattle.frame.specs.declared.error.FrameError.{FrameError}
 use Rattle.frame.specs.declared.error.FrameError.TheVariants.{Text, TooLarge, BadOffset}
 
@@ -13,3 +13,9 @@ abbrev pub place_of : FrameError → Option ℕ
 place_of (Text e) = Some (text_place e)
 place_of TooLarge = None
 place_of BadOffset = None
+
+-- what is printed of a refusal: a text's with its place, any other by its number
+abbrev pub shown : FrameError → List ℕ
+shown (Text e) = text_shown e
+shown TooLarge = decimal 4
+shown BadOffset = decimal 5

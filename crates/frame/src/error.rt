@@ -1,9 +1,11 @@
 // Why a call on a frame is refused.
-ghost use Rattle.std.specs.Prelude.{◌≡◌};
-ghost use Rattle.frame.specs.Answers.{number_of, place_of};
+ghost use Rattle.std.specs.Prelude.{◌≡◌, Some};
+ghost use Rattle.frame.specs.Answers.{number_of, place_of, shown};
 ghost use Rattle.frame.specs.declared.error.FrameError.TheVariants.{Text};
 
 use ansi::Refusal;
+use std::error::Error;
+use std::fmt;
 
 /// Why a call on a frame is refused.
 #[derive(Clone, Copy, Debug, PartialEq)]
@@ -37,6 +39,20 @@ impl FrameError {
         }
     }
 }
+
+// The number, and the place where there is one.
+impl fmt::Display for FrameError {
+    ghost output = { λ e. Some (shown e) };
+
+    fn fmt<W: fmt::Write>(&self, f: &mut fmt::Formatter<W>) -> fmt::Result {
+        match self {
+            FrameError::Text(refusal) => write!(f, "{refusal}"),
+            FrameError::TooLarge | FrameError::BadOffset => write!(f, "{}", self.number()),
+        }
+    }
+}
+
+impl Error for FrameError {}
 
 impl From<Refusal> for FrameError {
     ghost from_gives = { λ e r. r ≡ Text e };

@@ -102,7 +102,7 @@ pub(crate) fn listing(heap: Global, text: &[u8]) -> Result<String, fmt::Error> {
     let mut out = String::new(heap);
     match read_utf8(text) {
         Ok(text) => push_text(&mut out, text)?,
-        Err(refusal) => writeln!(out, "refused {} at {}", refusal.number(), refusal.place())?,
+        Err(refusal) => writeln!(out, "refused {refusal}")?,
     }
     Ok(out)
 }

@@ -57,13 +57,7 @@ impl fmt::Display for Refused {
     fn fmt<W: fmt::Write>(&self, f: &mut fmt::Formatter<W>) -> fmt::Result {
         match self {
             Refused::NoSize => f.write_str("fault 5"),
-            Refused::Frame(error) => {
-                write!(f, "refused {}", error.number())?;
-                match error.place() {
-                    Some(place) => write!(f, " at {place}"),
-                    None => Ok(()),
-                }
-            }
+            Refused::Frame(error) => write!(f, "refused {error}"),
         }
     }
 }
