@@ -66,15 +66,14 @@ impl<'a> Iterator for AnsiAwareChars<'a> {
     fn next(&mut self) -> Option<Piece<'a>> {
         let input = self.input;
         let (c, rest) = first(input)?;
-        if c == '\x1B' {
-            let place = self.place();
-            self.input = behind_sequence(rest);
-            let text = &input[..input.len() - self.input.len()];
-            Some(Piece::Escape { text, place })
-        } else {
-            self.input = rest;
-            Some(Piece::Char(c))
+        self.input = rest;
+        if c != '\x1B' {
+            return Some(Piece::Char(c));
         }
+        let place = self.len - input.len();
+        self.input = behind_sequence(rest);
+        let text = &input[..input.len() - self.input.len()];
+        Some(Piece::Escape { text, place })
     }
 }
 
