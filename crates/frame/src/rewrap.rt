@@ -14,6 +14,9 @@ use store::Runs;
 use style::StyleSheet;
 use width::{RowHash, WidthRule};
 
+// Counting a frame anew and storing it go over the same rows, in functions of their own: one function over what is done
+// with a run would have to carry the contracts of both.
+
 // The counts of a frame, and whether its style is plain.
 #[derive(Clone, Copy)]
 pub(crate) struct Measured {

@@ -2,6 +2,7 @@
 ghost use Rattle.std.specs.Prelude.{◌≡◌, ℕ, true, false, List, MatchOption};
 ghost use Rattle.pen.specs.Sequences.{parameters, Colours, ColoursTold, is_colour, between};
 
+// Named in stream too: public names for two bytes would be no plainer.
 const ESC: u8 = 0x1B;
 
 const BRACKET: u8 = b'[';

@@ -84,7 +84,7 @@ impl Color {
         match self {
             Color::Rgb { r, g, b } => [3, r, g, b],
             Color::AnsiValue(value) => [2, value, 0, 0],
-            name => [1, name.code().unwrap_or(0), 0, 0],
+            name => [1, name.code().unwrap(), 0, 0],
         }
     }
 }
@@ -105,7 +105,7 @@ impl EqMeans for Option<Color> {
     ghost holds = { colors_decide.options };
 }
 
-/// The named colours in the order of their codes.
+/// The named colours in the order of their codes. Searching it in `code` would be no plainer than the match there.
 const NAMES: [Color; 16] = [
     Color::Black,
     Color::DarkRed,
