@@ -14,32 +14,8 @@ returns-then-not-fits g c =
     let same = ap (λ w. fits (rule_at w g.C.WidthRule.cells g.R.RowHash.seed g.R.RowHash.step) (rewrapped (rule_at w g.C.WidthRule.cells g.R.RowHash.seed g.R.RowHash.step) f)) c.width-columns.ensures in
     ((not_from_Decides false c.if-eq.ensures.decides refl, sym same ∙ sym fit ∙ c.if-not-fits.true, refl), refl, refl)
 
-pub rewrite-requires : goal.rewrite-requires
-rewrite-requires g c =
-    let k = rule_at c.width-columns.result g.C.WidthRule.cells g.R.RowHash.seed g.R.RowHash.step in
-    rewrap-within k (sheet_of c.args.self.now) _ _ _ c.measure_rewrap-end.ensures.value c.is_empty.ensures.value c.fits.ensures c.if-not-fits.false
-
 pub invariant_of-self : goal.invariant_of-self
 invariant_of-self g c =
     let k = rule_at c.width-columns.result g.C.WidthRule.cells g.R.RowHash.seed g.R.RowHash.step in
     let fit = rewrap-fits k (sheet_of c.args.self.now) _ _ _ c.measure_rewrap-end.ensures.value c.is_empty.ensures.value c.fits.ensures in
     record { fitting = ap (λ d. fits (hashing 0 (λ h b. 0)) (frame_of d)) c.swap.ensures.x_after ∙ ap (fits (hashing 0 (λ h b. 0))) c.rewrite.ensures ∙ sym fit ∙ c.if-not-fits.false }
-
-pub returns : goal.returns
-returns g c =
-    let f = sheet_of c.args.self.now in
-    let fit = rewrap-fits (rule_at c.width-columns.result g.C.WidthRule.cells g.R.RowHash.seed g.R.RowHash.step) f _ _ _ c.measure_rewrap-end.ensures.value c.is_empty.ensures.value c.fits.ensures in
-    let same = ap (λ w. rewrapped (rule_at w g.C.WidthRule.cells g.R.RowHash.seed g.R.RowHash.step) f) c.width-columns.ensures in
-    let k = rule_at c.args.new_size.width g.C.WidthRule.cells g.R.RowHash.seed g.R.RowHash.step in
-    inr (
-      not_from_Decides false c.if-eq.ensures.decides refl,
-      record {
-        fit = sym (ap (fits k) same) ∙ sym fit ∙ c.if-not-fits.false;
-        frame = ap frame_of c.swap.ensures.x_after ∙ c.rewrite.ensures ∙ same;
-        size = refl;
-        mark = refl;
-        spare = ap frame_of c.swap.ensures.y_after;
-        spare_size = refl;
-        spare_mark = refl;
-      },
-    )
