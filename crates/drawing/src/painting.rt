@@ -30,7 +30,11 @@ fn write_row<T: Terminal>(terminal: &mut T, i: usize, runs: Runs) -> Result<(), 
 fn return_from<T: Terminal>(terminal: &mut T, i: usize) -> Result<(), DrawError>
     ensures { Tried T.Width.cells (for_row i return ∷ []) (T.Terminal.page terminal.old) result (T.Terminal.page terminal.new) }
 {
-    DrawError::check(terminal.carriage_return(), CallKind::CarriageReturn, Some(i))
+    DrawError::check(
+        terminal.carriage_return(),
+        CallKind::CarriageReturn,
+        Some(i),
+    )
 }
 
 // Goes to the next line's start behind a row, and stays on the row's line where no rows are left.

@@ -2,11 +2,6 @@ use Rattle.std.proofs.Common.{sym, ◌∙◌, rules}
 use Rattle.frame.proofs.Taking.{size-taken, tally-step, tally-end}
 use Rattle.frame.proofs.tally.measure.Goals as goal
 
-pub put-counts-requires : goal.put-counts-requires
-put-counts-requires g c =
-    let size = size-taken _ _ _ c.in-Some.ensures.steps in
-    search rules
-
 pub loop-piece-preserved : goal.loop-piece-preserved
 loop-piece-preserved g c =
     let size = size-taken _ _ _ c.in-Some.ensures.steps in

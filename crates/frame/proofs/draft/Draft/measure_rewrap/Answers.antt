@@ -19,9 +19,6 @@ loop-row-preserved g c = (
   rows_turn-room _ _ _ _ _ c.in-Some.ensures.steps _ _ c.loop-row.invariant.1 _ c.write_runs.ensures _ c.close_row-end.ensures.value c.close_row-end.ensures.spread,
 )
 
-pub write_runs-requires-2 : goal.write_runs-requires-2
-write_runs-requires-2 g c = open_room _ c.in-None.ensures.steps.0 _ _ c.open_row.ensures _ c.loop-row.invariant.1
-
 pub returns : goal.returns
 returns g c =
     let f = frame_of c.args.self.now in

@@ -6,12 +6,6 @@ use Rattle.frame.specs.Drafts.{frame_of, rule_by}
 use Rattle.frame.proofs.Rewriting.{row_within, line-within, row_step, open-within, rewrap-end}
 use Rattle.frame.proofs.draft.Draft.rewrite.Goals as goal
 
-pub loop-row-init : goal.loop-row-init
-loop-row-init g c =
-    let k = rule_by c.args.columns g.C.WidthRule g.R.RowHash in
-    let rows = ap rows_left c.into_iter-row-iterator.ensures.into_iter_gives ∙ c.rows-row-items.ensures in
-    λ i. fold (rewrite_row k) (c.clear.ensures i) (rows i)
-
 pub write_runs-requires : goal.write_runs-requires
 write_runs-requires g c =
     let k = rule_by c.args.columns g.C.WidthRule g.R.RowHash in
@@ -21,11 +15,6 @@ pub close_row-requires : goal.close_row-requires
 close_row-requires g c =
     let k = rule_by c.args.columns g.C.WidthRule g.R.RowHash in
     subst (λ f. Within (tally_of (closed k true f))) (sym c.write_runs.ensures) (row_within k (frame_of c.args.from.now) _ (frame_of c.loop-row.self) c.loop-row.invariant c.requires _ _ c.in-Some.ensures.steps)
-
-pub loop-row-preserved : goal.loop-row-preserved
-loop-row-preserved g c =
-    let k = rule_by c.args.columns g.C.WidthRule g.R.RowHash in
-    row_step k (frame_of c.args.from.now) _ (frame_of c.loop-row.self) c.loop-row.invariant c.requires _ _ c.in-Some.ensures.steps _ (c.close_row.ensures ∙ ap (closed k true) c.write_runs.ensures)
 
 pub write_runs-requires-2 : goal.write_runs-requires-2
 write_runs-requires-2 g c =

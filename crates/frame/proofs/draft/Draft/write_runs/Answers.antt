@@ -10,14 +10,3 @@ write-requires g c =
     let k = rule_by c.args.columns g.C.WidthRule g.R.RowHash in
     let given = ap (λ s. fold (rewrite_run k) (frame_of c.args.self.now) (runs_left s)) c.into_iter-text-iterator.ensures.into_iter_gives in
     run-within k _ _ _ c.in-Some.ensures.steps (frame_of c.loop-text.self) _ (c.loop-text.invariant ∙ given) c.requires
-
-pub loop-text-preserved : goal.loop-text-preserved
-loop-text-preserved g c =
-    let k = rule_by c.args.columns g.C.WidthRule g.R.RowHash in
-    run_step k _ _ _ c.in-Some.ensures.steps (frame_of c.loop-text.self) _ c.loop-text.invariant _ c.write.ensures
-
-pub returns : goal.returns
-returns g c =
-    let k = rule_by c.args.columns g.C.WidthRule g.R.RowHash in
-    let given = ap (λ s. fold (rewrite_run k) (frame_of c.args.self.now) (runs_left s)) c.into_iter-text-iterator.ensures.into_iter_gives in
-    sym (ap (fold (rewrite_run k) (frame_of c.loop-text.self)) c.in-None.ensures.steps.0) ∙ c.loop-text.invariant ∙ given

@@ -15,16 +15,12 @@ returns-then-not-fits g c =
     let same = ap (λ w. fits (rule_at w g.C.WidthRule.cells g.R.RowHash.seed g.R.RowHash.step) (rewrapped (rule_at w g.C.WidthRule.cells g.R.RowHash.seed g.R.RowHash.step) f)) c.width-columns.ensures in
     ((not_from_Decides false (Decides-at _ _ c.if-eq.ensures (sizes_decide c.args.self.now.terminal_size c.args.new_size)) refl, sym same ∙ sym fit ∙ c.if-not-fits.true, refl), refl, refl)
 
-pub rewrite-requires : goal.rewrite-requires
-rewrite-requires g c =
-    let k = rule_at c.width-columns.result g.C.WidthRule.cells g.R.RowHash.seed g.R.RowHash.step in
-    rewrap-within k (sheet_of c.args.self.now) _ _ _ c.measure_rewrap-end.ensures.value c.is_empty.ensures.value c.fits.ensures c.if-not-fits.false
-
 pub invariant_of-self : goal.invariant_of-self
 invariant_of-self g c =
     let k = rule_at c.width-columns.result g.C.WidthRule.cells g.R.RowHash.seed g.R.RowHash.step in
     let fit = rewrap-fits k (sheet_of c.args.self.now) _ _ _ c.measure_rewrap-end.ensures.value c.is_empty.ensures.value c.fits.ensures in
     record { fitting = ap (λ d. fits (hashing 0 (λ h b. 0)) (frame_of d)) c.swap.ensures.x_after ∙ ap (fits (hashing 0 (λ h b. 0))) c.rewrite.ensures ∙ sym fit ∙ c.if-not-fits.false }
+<<<<<<< HEAD
 
 pub returns : goal.returns
 returns g c =
@@ -44,3 +40,5 @@ returns g c =
         spare_mark = refl;
       },
     )
+=======
+>>>>>>> 85d6c45125d46123bf2a9f46354083997af109ec
