@@ -1,7 +1,7 @@
 use Rattle.std.proofs.Common.{ap, ◌∙◌}
 use Rattle.store.specs.Walks.{rows_left}
 use Rattle.frame.specs.Drafts.{frame_of}
-use Rattle.frame.proofs.Rewrapping.{row_room, closing_room, rows_turn, rows_turn-room, rows_whole, start_room, open_room, last_room, rewrap-counts}
+use Rattle.frame.proofs.Rewrapping.{row_room, closing_room, rows_turn, rows_turn-room, rows_whole, start_room, last_room, rewrap-counts}
 use Rattle.frame.proofs.draft.Draft.measure_rewrap.Goals as goal
 
 pub loop-row-init : goal.loop-row-init

@@ -1,9 +1,8 @@
-use Rattle.std.proofs.Common.{true, sym, ap, ◌∙◌, fold, subst}
+use Rattle.std.proofs.Common.{true, sym, subst}
 use Rattle.layout.specs.Tally.{Within, tally_of}
-use Rattle.layout.specs.Writing.{closed, rewrite_row}
-use Rattle.store.specs.Walks.{rows_left}
+use Rattle.layout.specs.Writing.{closed}
 use Rattle.frame.specs.Drafts.{frame_of, rule_by}
-use Rattle.frame.proofs.Rewriting.{row_within, line-within, row_step, open-within, rewrap-end}
+use Rattle.frame.proofs.Rewriting.{row_within, line-within, open-within, rewrap-end}
 use Rattle.frame.proofs.draft.Draft.rewrite.Goals as goal
 
 pub write_runs-requires : goal.write_runs-requires

@@ -1,8 +1,8 @@
-use Rattle.std.proofs.Common.{sym, ap, ◌∙◌, fold}
+use Rattle.std.proofs.Common.{ap, ◌∙◌, fold}
 use Rattle.layout.specs.Writing.{rewrite_run}
 use Rattle.store.specs.Walks.{runs_left}
 use Rattle.frame.specs.Drafts.{frame_of, rule_by}
-use Rattle.frame.proofs.Rewriting.{run-within, run_step}
+use Rattle.frame.proofs.Rewriting.{run-within}
 use Rattle.frame.proofs.draft.Draft.write_runs.Goals as goal
 
 pub write-requires : goal.write-requires
