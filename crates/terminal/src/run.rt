@@ -30,12 +30,8 @@ fn line_cells<C: WidthRule>(text: &str) -> Option<usize>
 pub fn check_run<C: WidthRule>(text: &[u8], room: u16) -> Result<(&str, u16), Fault>
     ensures { MatchResult result (λ x. (x.0.now ≡ text.now) × Fitting C.WidthRule.cells text.now room x.1) (Misfit C.WidthRule.cells text.now room) }
 {
-    let Ok(text) = check_text(text) else {
-        return Err(Fault::Text);
-    };
-    let Some(cells) = line_cells::<C>(text) else {
-        return Err(Fault::Text);
-    };
+    let text = check_text(text).map_err(|_| Fault::Text)?;
+    let cells = line_cells::<C>(text).ok_or(Fault::Text)?;
     if cells > usize::from(room) {
         return Err(Fault::Wide);
     }
