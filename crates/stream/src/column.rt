@@ -3,38 +3,17 @@ ghost use Rattle.std.specs.Prelude.{◌≡◌, min, true, false, MatchOption};
 ghost use Rattle.ansi.specs.Pieces.{letter};
 ghost use Rattle.pen.specs.Sequences.{parameters};
 ghost use Rattle.terminal.specs.Pages.{at};
-ghost use Rattle.terminal.specs.Calls.{leftward, rightward};
 ghost use Rattle.stream.specs.Controls.{first_number, asked};
 ghost use Rattle.stream.specs.Cursors.{moved, placed, cursor_of};
 ghost use Rattle.stream.specs.Law.{ReadsBack};
 
 use ansi::{AnsiAware, Piece};
+use terminal::{leftward, rightward};
 use width::WidthRule;
 
 const ESC: u8 = 0x1B;
 
 const BRACKET: u8 = b'[';
-
-/// The column after a move to the left, on a line of `width` cells.
-pub fn leftward(width: u16, cnt: u16, col: u16) -> u16
-    ensures { result ≡ leftward width cnt col }
-{
-    if cnt == 0 {
-        return col;
-    }
-    col.min(width.saturating_sub(1)).saturating_sub(cnt)
-}
-
-/// The column after a move to the right, on a line of `width` cells.
-pub fn rightward(width: u16, cnt: u16, col: u16) -> u16
-    ensures { result ≡ rightward width cnt col }
-{
-    if cnt == 0 {
-        return col;
-    }
-    let last = width.saturating_sub(1);
-    col.min(last).saturating_add(cnt).min(last)
-}
 
 // The first number of the parameters of a control sequence, 65,535 where it is larger; none for other bytes.
 fn first_number(bytes: &[u8]) -> Option<u16>
