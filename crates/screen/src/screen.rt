@@ -13,7 +13,7 @@ use crate::purse::Purse;
 use size::{Position, TerminalSize};
 use std::marker::PhantomData;
 use style::StyleSheet;
-use terminal::{Fault, Terminal, check_run};
+use terminal::{Fault, Terminal, check_run, leftward, rightward};
 use width::WidthRule;
 
 // Whether so many cells are a screen of this size.
@@ -51,9 +51,7 @@ impl<'a, C: WidthRule> Screen<'a, C> {
         ensures { MatchResult result (λ s. Sized width height (length cells.old) × (page_of s ≡ blank_page width height 4294967295)) (Unsized width height (length cells.old)) }
     {
         let len = cells.len();
-        if let Err(fault) = check_size(width, height, len) {
-            return Err(fault);
-        }
+        check_size(width, height, len)?;
         fill(cells, 0, len, Cell::Blank);
         Ok(Screen {
             cells,
@@ -219,10 +217,7 @@ impl<'a, C: WidthRule> Terminal for Screen<'a, C> {
         ensures { Exactly C.WidthRule.cells (left cnt) (page_of self.old) result (page_of self.new) }
     {
         self.purse.pay(8, 0)?;
-        if cnt > 0 {
-            let last = columns(self.width) - 1;
-            self.col = self.col.min(last).saturating_sub(cnt);
-        }
+        self.col = leftward(columns(self.width), cnt, self.col);
         Ok(())
     }
 
@@ -230,10 +225,7 @@ impl<'a, C: WidthRule> Terminal for Screen<'a, C> {
         ensures { Exactly C.WidthRule.cells (right cnt) (page_of self.old) result (page_of self.new) }
     {
         self.purse.pay(8, 0)?;
-        if cnt > 0 {
-            let last = columns(self.width) - 1;
-            self.col = self.col.min(last).saturating_add(cnt).min(last);
-        }
+        self.col = rightward(columns(self.width), cnt, self.col);
         Ok(())
     }
 
