@@ -21,18 +21,13 @@ fn first_number(bytes: &[u8]) -> Option<u16>
 {
     let mut n: u16 = 0;
     let mut first = true;
-    let mut rest = bytes;
-    while let Some((b, later)) = rest.split_first() {
+    for b in bytes {
         match *b {
-            b'0'..=b'9' => {
-                if first {
-                    n = n.saturating_mul(10).saturating_add(u16::from(*b - b'0'));
-                }
-            }
             b';' => first = false,
+            b'0'..=b'9' if first => n = n.saturating_mul(10).saturating_add(u16::from(*b - b'0')),
+            b'0'..=b'9' => {}
             _ => return None,
         }
-        rest = later;
     }
     Some(n)
 }
@@ -42,16 +37,11 @@ fn column_behind(sequence: &[u8], width: u16, col: u16) -> u16
     ensures { result ≡ (moved (λ _. 0) width (asked sequence.now) (at 0 col)).col }
 {
     match sequence {
-        [ESC, BRACKET, .., last] => {
-            let Some(n) = first_number(&sequence[2..sequence.len() - 1]) else {
-                return col;
-            };
-            match *last {
-                b'C' => rightward(width, n.max(1), col),
-                b'D' => leftward(width, n.max(1), col),
-                _ => col,
-            }
-        }
+        [ESC, BRACKET, middle @ .., last] => match (first_number(middle), *last) {
+            (Some(n), b'C') => rightward(width, n.max(1), col),
+            (Some(n), b'D') => leftward(width, n.max(1), col),
+            _ => col,
+        },
         _ => col,
     }
 }
