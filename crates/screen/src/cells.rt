@@ -55,12 +55,11 @@ fn put_char(cells: &mut [Cell], at: usize, n: usize, cell: Cell)
 }
 
 // Puts the characters of a run, with the pen that its style and its colour sequences give.
-pub(crate) fn put_run<C: WidthRule>(cells: &mut [Cell], at: usize, text: &str, style: StyleSheet)
+pub(crate) fn put_run<C: WidthRule>(cells: &mut [Cell], mut at: usize, text: &str, style: StyleSheet)
     requires { at + length (ink C.WidthRule.cells (run text.now style)) < 2 ^ 64 }
     ensures { Stored at (ink C.WidthRule.cells (run text.now style)) cells.old cells.new }
 {
     let mut pen = style;
-    let mut at = at;
     for piece in text.ansi_aware_chars() {
         match piece {
             Piece::Escape { text, .. } => pen = steer(pen, text.as_bytes()),
