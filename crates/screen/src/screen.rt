@@ -1,14 +1,13 @@
 // A terminal over lent cells.
-ghost use Rattle.std.specs.Prelude.{◌≡◌, ◌<◌, length, MatchOption, MatchResult};
+ghost use Rattle.std.specs.Prelude.{◌≡◌, ◌*◌, ◌<◌, ◌≤◌, length, MatchOption, MatchResult};
 ghost use Rattle.layout.specs.Writing.{run};
 ghost use Rattle.terminal.specs.Calls.{write, return, feed, clear_line, clear_until_new_line, hide, show, up, down, left, right, flush};
 ghost use Rattle.screen.specs.Cells.{cell_of};
 ghost use Rattle.screen.specs.Purses.{Exactly};
-ghost use Rattle.screen.specs.Screens.{page_of, blank_page};
 ghost use Rattle.screen.specs.Sizes.{Sized, Unsized};
 
 use crate::cell::Cell;
-use crate::cells::{columns, fill, lines, put_run};
+use crate::cells::{fill, put_run};
 use crate::purse::Purse;
 use size::{Position, TerminalSize};
 use std::marker::PhantomData;
@@ -31,14 +30,21 @@ fn check_size(width: u16, height: u16, len: usize) -> Result<(), Fault>
 pub struct Screen<'a, C> {
     cells: &'a mut [Cell],
     width: u16,
+    height: u16,
     line: u16,
     col: u16,
     shown: bool,
     purse: Purse,
     rule: PhantomData<C>,
+    // the cells are whole lines, and the cursor stands on one of them, or behind its last cell
+    ghost whole: { length cells.now ≡ width * height },
+    ghost size: { (0 < width) × (0 < height) },
+    ghost place: { (line < height) × (col ≤ width) },
 }
 
 impl<'a, C: WidthRule> Screen<'a, C> {
+    ghost use Rattle.screen.specs.Screens.{page_of, blank_page};
+
     /// Whether `new` takes these cells at this size: as many as it has, in 1 to 1,024 lines that are not empty.
     pub fn check(cells: &[Cell], width: u16, height: u16) -> Result<(), Fault>
         ensures { MatchResult result (λ _. Sized width height (length cells.now)) (Unsized width height (length cells.now)) }
@@ -56,6 +62,7 @@ impl<'a, C: WidthRule> Screen<'a, C> {
         Ok(Screen {
             cells,
             width,
+            height,
             line: 0,
             col: 0,
             shown: true,
@@ -68,25 +75,24 @@ impl<'a, C: WidthRule> Screen<'a, C> {
     pub fn cell(&self, line: u16, column: u16) -> Option<Cell>
         ensures { MatchOption result (line < (page_of self.now).lines → column < (page_of self.now).width → ⊥) (λ x. (line < (page_of self.now).lines) × (column < (page_of self.now).width) × (cell_of x ≡ (page_of self.now).cells line column)) }
     {
-        let width = columns(self.width);
-        if line >= lines(self.width, self.cells.len()) || column >= width {
+        if line >= self.height || column >= self.width {
             return None;
         }
-        Some(self.cells[line as usize * width as usize + column as usize])
+        Some(self.cells[line as usize * self.width as usize + column as usize])
     }
 
     /// The cells of a line.
     pub fn width(&self) -> u16
         ensures { result ≡ (page_of self.now).width }
     {
-        columns(self.width)
+        self.width
     }
 
     /// How many lines there are.
     pub fn lines(&self) -> u16
         ensures { result ≡ (page_of self.now).lines }
     {
-        lines(self.width, self.cells.len())
+        self.height
     }
 
     pub fn cursor(&self) -> Position
@@ -94,7 +100,7 @@ impl<'a, C: WidthRule> Screen<'a, C> {
     {
         Position {
             row: self.line,
-            col: self.col.min(columns(self.width)),
+            col: self.col,
         }
     }
 
@@ -102,6 +108,13 @@ impl<'a, C: WidthRule> Screen<'a, C> {
         ensures { result ≡ (page_of self.now).shown }
     {
         self.shown
+    }
+
+    // Where the cells of the cursor's line begin.
+    fn line_start(&self) -> usize
+        ensures { result ≡ self.now.line * self.now.width }
+    {
+        self.line as usize * self.width as usize
     }
 
     /// How much the calls to come may cost.
@@ -120,25 +133,24 @@ impl<'a, C: WidthRule> Screen<'a, C> {
 }
 
 impl<'a, C: WidthRule> Terminal for Screen<'a, C> {
+    ghost use Rattle.screen.specs.Screens.{page_of};
+
     type Width = C;
 
     ghost page = { page_of };
 
     fn get_size(&self) -> Result<Option<TerminalSize>, Fault> {
-        let height = lines(self.width, self.cells.len()).max(1);
-        Ok(TerminalSize::new(columns(self.width), height))
+        Ok(TerminalSize::new(self.width, self.height))
     }
 
     fn write_styled(&mut self, text: &[u8], style: StyleSheet) -> Result<(), Fault>
         ensures { Exactly C.WidthRule.cells (write (run text.now style)) (page_of self.old) result (page_of self.new) }
     {
-        let width = columns(self.width);
-        let col = self.col.min(width);
-        let (run, cells) = check_run::<C>(text, width - col)?;
+        let (run, cells) = check_run::<C>(text, self.width - self.col)?;
         self.purse.pay(text.len() + 50, 1)?;
-        let at = self.line as usize * width as usize + col as usize;
+        let at = self.line_start() + self.col as usize;
         put_run::<C>(self.cells, at, run, style);
-        self.col = col + cells;
+        self.col += cells;
         Ok(())
     }
 
@@ -160,9 +172,8 @@ impl<'a, C: WidthRule> Terminal for Screen<'a, C> {
         ensures { Exactly C.WidthRule.cells clear_line (page_of self.old) result (page_of self.new) }
     {
         self.purse.pay(8, 1)?;
-        let width = columns(self.width) as usize;
-        let from = self.line as usize * width;
-        fill(self.cells, from, width, Cell::Blank);
+        let from = self.line_start();
+        fill(self.cells, from, self.width as usize, Cell::Blank);
         Ok(())
     }
 
@@ -170,10 +181,9 @@ impl<'a, C: WidthRule> Terminal for Screen<'a, C> {
         ensures { Exactly C.WidthRule.cells clear_until_new_line (page_of self.old) result (page_of self.new) }
     {
         self.purse.pay(8, 1)?;
-        let width = columns(self.width);
-        let col = self.col.min(width);
-        let from = self.line as usize * width as usize + col as usize;
-        fill(self.cells, from, (width - col) as usize, Cell::Blank);
+        let from = self.line_start() + self.col as usize;
+        let n = (self.width - self.col) as usize;
+        fill(self.cells, from, n, Cell::Blank);
         Ok(())
     }
 
@@ -205,7 +215,7 @@ impl<'a, C: WidthRule> Terminal for Screen<'a, C> {
         ensures { Exactly C.WidthRule.cells (down cnt) (page_of self.old) result (page_of self.new) }
     {
         let line = self.line.saturating_add(cnt);
-        if line >= lines(self.width, self.cells.len()) {
+        if line >= self.height {
             return Err(Fault::Bottom);
         }
         self.purse.pay(8, 0)?;
@@ -217,7 +227,7 @@ impl<'a, C: WidthRule> Terminal for Screen<'a, C> {
         ensures { Exactly C.WidthRule.cells (left cnt) (page_of self.old) result (page_of self.new) }
     {
         self.purse.pay(8, 0)?;
-        self.col = leftward(columns(self.width), cnt, self.col);
+        self.col = leftward(self.width, cnt, self.col);
         Ok(())
     }
 
@@ -225,7 +235,7 @@ impl<'a, C: WidthRule> Terminal for Screen<'a, C> {
         ensures { Exactly C.WidthRule.cells (right cnt) (page_of self.old) result (page_of self.new) }
     {
         self.purse.pay(8, 0)?;
-        self.col = rightward(columns(self.width), cnt, self.col);
+        self.col = rightward(self.width, cnt, self.col);
         Ok(())
     }
 
