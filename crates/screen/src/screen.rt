@@ -1,9 +1,9 @@
 // A terminal over lent cells.
-ghost use Rattle.std.specs.Prelude.{◌≡◌, ◌*◌, ◌<◌, ◌≤◌, length, MatchOption, MatchResult};
+ghost use Rattle.std.specs.Prelude.{◌≡◌, ◌+◌, ◌*◌, ◌^◌, ◌<◌, ◌≤◌, length, MatchOption, MatchResult};
 ghost use Rattle.layout.specs.Writing.{run};
 ghost use Rattle.terminal.specs.Calls.{write, return, feed, clear_line, clear_until_new_line, hide, show, up, down, left, right, flush};
 ghost use Rattle.screen.specs.Cells.{cell_of};
-ghost use Rattle.screen.specs.Purses.{Exactly};
+ghost use Rattle.screen.specs.Purses.{work_of, left_of, Exactly};
 ghost use Rattle.screen.specs.Sizes.{Sized, Unsized};
 
 use crate::cell::Cell;
@@ -14,16 +14,6 @@ use std::marker::PhantomData;
 use style::StyleSheet;
 use terminal::{Fault, Terminal, check_run, leftward, rightward};
 use width::WidthRule;
-
-// Whether so many cells are a screen of this size.
-fn check_size(width: u16, height: u16, len: usize) -> Result<(), Fault>
-    ensures { MatchResult result (λ _. Sized width height len) (Unsized width height len) }
-{
-    if width == 0 || height == 0 || height > 1024 || len != width as usize * height as usize {
-        return Err(Fault::Size);
-    }
-    Ok(())
-}
 
 /// A terminal whose lines are cells that were lent.
 #[derive(Drop)]
@@ -40,6 +30,7 @@ pub struct Screen<'a, C> {
     ghost whole: { length cells.now ≡ width * height },
     ghost size: { (0 < width) × (0 < height) },
     ghost place: { (line < height) × (col ≤ width) },
+    ghost counted: { work_of purse + left_of purse < 2 ^ 32 },
 }
 
 impl<'a, C: WidthRule> Screen<'a, C> {
@@ -49,16 +40,22 @@ impl<'a, C: WidthRule> Screen<'a, C> {
     pub fn check(cells: &[Cell], width: u16, height: u16) -> Result<(), Fault>
         ensures { MatchResult result (λ _. Sized width height (length cells.now)) (Unsized width height (length cells.now)) }
     {
-        check_size(width, height, cells.len())
+        if width == 0
+            || height == 0
+            || height > 1024
+            || cells.len() != width as usize * height as usize
+        {
+            return Err(Fault::Size);
+        }
+        Ok(())
     }
 
     /// A blank screen. Cells that `check` refuses are not touched.
     pub fn new(cells: &'a mut [Cell], width: u16, height: u16) -> Result<Screen<'a, C>, Fault>
         ensures { MatchResult result (λ s. Sized width height (length cells.old) × (page_of s ≡ blank_page width height 4294967295)) (Unsized width height (length cells.old)) }
     {
-        let len = cells.len();
-        check_size(width, height, len)?;
-        fill(cells, 0, len, Cell::Blank);
+        Self::check(cells, width, height)?;
+        cells.fill(Cell::Blank);
         Ok(Screen {
             cells,
             width,
