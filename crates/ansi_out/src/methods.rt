@@ -13,13 +13,12 @@ use width::Table;
 impl AnsiOut {
     /// An empty terminal that sends into a Vec, which is cleared first. Where the width or the height is 0, that is fault 5,
     /// and the Vec comes back as it was.
-    pub fn new(bytes: Vec<u8>, width: u16, height: u16) -> Result<AnsiOut, (Vec<u8>, Fault)>
+    pub fn new(mut bytes: Vec<u8>, width: u16, height: u16) -> Result<AnsiOut, (Vec<u8>, Fault)>
         ensures { MatchResult result (λ s. (page_of s ≡ blank_page width height (vec_capacity bytes)) × (s.bytes.items ≡ []) × (0 < width) × (0 < height)) (λ e. (e.0 ≡ bytes) × Sizeless width height e.1) }
     {
         if width == 0 || height == 0 {
             return Err((bytes, Fault::Size));
         }
-        let mut bytes = bytes;
         bytes.clear();
         Ok(AnsiOut {
             bytes,
@@ -60,8 +59,7 @@ impl AnsiOut {
         ensures value { result ≡ self.bytes }
         ensures page { Shows table_cells result.items (page_of self) }
     {
-        let AnsiOut { bytes, .. } = self;
-        bytes
+        self.bytes
     }
 
     /// How many more bytes there is room for.
@@ -85,7 +83,6 @@ impl AnsiOut {
     pub fn work(&self) -> u64
         ensures { result ≡ (page_of self.now).work }
     {
-        let work = self.work;
-        work
+        self.work
     }
 }

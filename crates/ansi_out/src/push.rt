@@ -79,10 +79,7 @@ fn push_color(out: &mut Vec<u8>, base: u8, color: Option<Color>)
         None => {}
         Some(Color::Rgb { r, g, b }) => push_colouring(out, base + 8, &[2, r, g, b]),
         Some(Color::AnsiValue(n)) => push_colouring(out, base + 8, &[5, n]),
-        Some(name) => {
-            let code = short_code(base, name.code().unwrap_or(0));
-            push_colouring(out, code, &[]);
-        }
+        Some(name) => push_colouring(out, short_code(base, name.code().unwrap()), &[]),
     }
 }
 
@@ -96,26 +93,14 @@ fn push_flag(out: &mut Vec<u8>, n: u8, on: bool)
     }
 }
 
-fn is_bold(style: StyleSheet) -> bool
-    ensures { result ≡ style.att.bold }
-{
-    style.att.contains(Attributes::BOLD)
-}
-
-fn is_italic(style: StyleSheet) -> bool
-    ensures { result ≡ style.att.italic }
-{
-    style.att.contains(Attributes::ITALIC)
-}
-
 fn push_style(out: &mut Vec<u8>, style: StyleSheet)
     requires { Room out.old (styling style) }
     ensures { Adds out.old out.new (styling style) }
 {
     push_color(out, 30, style.fg);
     push_color(out, 40, style.bg);
-    push_flag(out, 1, is_bold(style));
-    push_flag(out, 3, is_italic(style));
+    push_flag(out, 1, style.att.contains(Attributes::BOLD));
+    push_flag(out, 3, style.att.contains(Attributes::ITALIC));
 }
 
 // A run: its style, its text, and a plain pen again.
