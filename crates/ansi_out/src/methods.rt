@@ -2,9 +2,14 @@
 ghost use Rattle.std.specs.Prelude.{◌≡◌, ◌<◌, ◌≤◌, [], vec_capacity, MatchResult};
 ghost use Rattle.width.specs.Widths.{table_cells};
 ghost use Rattle.stream.specs.Law.{Shows};
+ghost use Rattle.terminal.specs.Calls.{Call};
+ghost use Rattle.terminal.specs.Outcomes.{Outcome};
 ghost use Rattle.ansi_out.specs.Pages.{page_of, blank_page, Sizeless, Resized};
+ghost use Rattle.ansi_out.specs.Still.{Still};
 
+use crate::calls::COST;
 use crate::out::AnsiOut;
+use crate::push::push_all;
 use std::str;
 use stream::cursor_column;
 use terminal::Fault;
@@ -76,6 +81,18 @@ impl AnsiOut {
         if self.left() < cost {
             return Err(Fault::Full);
         }
+        Ok(())
+    }
+
+    // Sends the bytes of a call that leaves the cursor where it is, and counts its work.
+    pub(crate) fn send(&mut self, bytes: &[u8], work: u64) -> Result<(), Fault>
+        ghost call: { Call }
+        requires { Still call bytes.now work }
+        ensures { Outcome table_cells call (page_of self.old) result (page_of self.new) }
+    {
+        self.check_left(COST)?;
+        push_all(&mut self.bytes, bytes);
+        self.work += work;
         Ok(())
     }
 
