@@ -4,15 +4,9 @@ ghost use Rattle.ansi_out.specs.Pages.{page_of};
 use crate::out::AnsiOut;
 use crate::push::{push, push_move, push_run};
 use size::TerminalSize;
-use stream::{leftward, rightward};
 use style::StyleSheet;
-use terminal::{Fault, Terminal, check_run};
+use terminal::{COST, Fault, RUN_COST, Terminal, check_run, leftward, rightward};
 use width::Table;
-
-// What a call costs, and what a run costs beside its bytes.
-pub(crate) const COST: usize = 8;
-
-const STYLE_COST: usize = 50;
 
 // There is no line below this one.
 const LAST_LINE: u16 = 65534;
@@ -28,7 +22,7 @@ impl Terminal for AnsiOut {
 
     fn write_styled(&mut self, text: &[u8], style: StyleSheet) -> Result<(), Fault> {
         let (_, cells) = check_run::<Table>(text, self.width - self.col)?;
-        self.check_left(text.len() + STYLE_COST)?;
+        self.check_left(text.len() + RUN_COST)?;
         push_run(&mut self.bytes, text, style);
         self.col += cells;
         self.work += 1;

@@ -7,12 +7,11 @@ ghost use Rattle.terminal.specs.Outcomes.{Outcome};
 ghost use Rattle.ansi_out.specs.Pages.{page_of, blank_page, Sizeless, Resized};
 ghost use Rattle.ansi_out.specs.Still.{Still};
 
-use crate::calls::COST;
 use crate::out::AnsiOut;
 use crate::push::push_all;
 use std::str;
 use stream::cursor_column;
-use terminal::Fault;
+use terminal::{COST, Fault};
 use width::Table;
 
 impl AnsiOut {

@@ -1,4 +1,4 @@
-// Bytes at the end of a Vec, within its capacity.
+// Bytes at the end of a Vec, within its capacity. A struct around the Vec would state the same room and the same bytes.
 ghost use Rattle.std.specs.Prelude.{◌≡◌, ◌+◌, ◌<◌, ◌≤◌, [], ◌∷◌, vec_len, vec_capacity, decimal};
 ghost use Rattle.layout.specs.Writing.{run};
 ghost use Rattle.terminal.specs.Calls.{write};
@@ -14,6 +14,7 @@ pub(crate) fn push(out: &mut Vec<u8>, b: u8)
     out.push_reserved(b);
 }
 
+// Not extend_from_slice, which does not say that the capacity stays.
 pub(crate) fn push_all(out: &mut Vec<u8>, bytes: &[u8])
     requires { Room out.old bytes.now }
     ensures { Adds out.old out.new bytes.now }
@@ -23,6 +24,7 @@ pub(crate) fn push_all(out: &mut Vec<u8>, bytes: &[u8])
     }
 }
 
+// The last digit is found first, so the digits before it are pushed by a call.
 fn push_decimal(out: &mut Vec<u8>, n: u16)
     requires { Room out.old (decimal n) }
     ensures { Adds out.old out.new (decimal n) }

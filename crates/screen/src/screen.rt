@@ -12,7 +12,7 @@ use crate::purse::Purse;
 use size::{Position, TerminalSize};
 use std::marker::PhantomData;
 use style::StyleSheet;
-use terminal::{Fault, Terminal, check_run, leftward, rightward};
+use terminal::{COST, Fault, RUN_COST, Terminal, check_run, leftward, rightward};
 use width::WidthRule;
 
 /// A terminal whose lines are cells that were lent.
@@ -144,7 +144,7 @@ impl<'a, C: WidthRule> Terminal for Screen<'a, C> {
         ensures { Exactly C.WidthRule.cells (write (run text.now style)) (page_of self.old) result (page_of self.new) }
     {
         let (run, cells) = check_run::<C>(text, self.width - self.col)?;
-        self.purse.pay(text.len() + 50, 1)?;
+        self.purse.pay(text.len() + RUN_COST, 1)?;
         let at = self.line_start() + self.col as usize;
         put_run::<C>(self.cells, at, run, style);
         self.col += cells;
@@ -154,7 +154,7 @@ impl<'a, C: WidthRule> Terminal for Screen<'a, C> {
     fn carriage_return(&mut self) -> Result<(), Fault>
         ensures { Exactly C.WidthRule.cells return (page_of self.old) result (page_of self.new) }
     {
-        self.purse.pay(8, 0)?;
+        self.purse.pay(COST, 0)?;
         self.col = 0;
         Ok(())
     }
@@ -168,7 +168,7 @@ impl<'a, C: WidthRule> Terminal for Screen<'a, C> {
     fn clear_line(&mut self) -> Result<(), Fault>
         ensures { Exactly C.WidthRule.cells clear_line (page_of self.old) result (page_of self.new) }
     {
-        self.purse.pay(8, 1)?;
+        self.purse.pay(COST, 1)?;
         let from = self.line_start();
         fill(self.cells, from, self.width as usize, Cell::Blank);
         Ok(())
@@ -177,7 +177,7 @@ impl<'a, C: WidthRule> Terminal for Screen<'a, C> {
     fn clear_until_new_line(&mut self) -> Result<(), Fault>
         ensures { Exactly C.WidthRule.cells clear_until_new_line (page_of self.old) result (page_of self.new) }
     {
-        self.purse.pay(8, 1)?;
+        self.purse.pay(COST, 1)?;
         let from = self.line_start() + self.col as usize;
         let n = (self.width - self.col) as usize;
         fill(self.cells, from, n, Cell::Blank);
@@ -187,7 +187,7 @@ impl<'a, C: WidthRule> Terminal for Screen<'a, C> {
     fn cursor_hide(&mut self) -> Result<(), Fault>
         ensures { Exactly C.WidthRule.cells hide (page_of self.old) result (page_of self.new) }
     {
-        self.purse.pay(8, 0)?;
+        self.purse.pay(COST, 0)?;
         self.shown = false;
         Ok(())
     }
@@ -195,7 +195,7 @@ impl<'a, C: WidthRule> Terminal for Screen<'a, C> {
     fn cursor_show(&mut self) -> Result<(), Fault>
         ensures { Exactly C.WidthRule.cells show (page_of self.old) result (page_of self.new) }
     {
-        self.purse.pay(8, 0)?;
+        self.purse.pay(COST, 0)?;
         self.shown = true;
         Ok(())
     }
@@ -203,7 +203,7 @@ impl<'a, C: WidthRule> Terminal for Screen<'a, C> {
     fn cursor_up(&mut self, cnt: u16) -> Result<(), Fault>
         ensures { Exactly C.WidthRule.cells (up cnt) (page_of self.old) result (page_of self.new) }
     {
-        self.purse.pay(8, 0)?;
+        self.purse.pay(COST, 0)?;
         self.line = self.line.saturating_sub(cnt);
         Ok(())
     }
@@ -215,7 +215,7 @@ impl<'a, C: WidthRule> Terminal for Screen<'a, C> {
         if line >= self.height {
             return Err(Fault::Bottom);
         }
-        self.purse.pay(8, 0)?;
+        self.purse.pay(COST, 0)?;
         self.line = line;
         Ok(())
     }
@@ -223,7 +223,7 @@ impl<'a, C: WidthRule> Terminal for Screen<'a, C> {
     fn cursor_left(&mut self, cnt: u16) -> Result<(), Fault>
         ensures { Exactly C.WidthRule.cells (left cnt) (page_of self.old) result (page_of self.new) }
     {
-        self.purse.pay(8, 0)?;
+        self.purse.pay(COST, 0)?;
         self.col = leftward(self.width, cnt, self.col);
         Ok(())
     }
@@ -231,7 +231,7 @@ impl<'a, C: WidthRule> Terminal for Screen<'a, C> {
     fn cursor_right(&mut self, cnt: u16) -> Result<(), Fault>
         ensures { Exactly C.WidthRule.cells (right cnt) (page_of self.old) result (page_of self.new) }
     {
-        self.purse.pay(8, 0)?;
+        self.purse.pay(COST, 0)?;
         self.col = rightward(self.width, cnt, self.col);
         Ok(())
     }
@@ -239,6 +239,6 @@ impl<'a, C: WidthRule> Terminal for Screen<'a, C> {
     fn flush(&mut self) -> Result<(), Fault>
         ensures { Exactly C.WidthRule.cells flush (page_of self.old) result (page_of self.new) }
     {
-        self.purse.pay(8, 0)
+        self.purse.pay(COST, 0)
     }
 }

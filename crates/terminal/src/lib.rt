@@ -10,4 +10,4 @@ mod terminal;
 pub use fault::{CallKind, Fault};
 pub use moves::{leftward, rightward};
 pub use run::check_run;
-pub use terminal::Terminal;
+pub use terminal::{COST, RUN_COST, Terminal};

@@ -15,6 +15,7 @@ use width::WidthRule;
 fn line_cells<C: WidthRule>(text: &str) -> Option<usize>
     ensures { MatchOption result (AllByRecursion (λ p. is_line p ≡ false) (pieces text.now) → ⊥) (λ n. AllByRecursion (λ p. is_line p ≡ false) (pieces text.now) × (n ≡ min (span C.WidthRule.cells (pieces text.now)) (2 ^ 64 - 1))) }
 {
+    // a loop that stops at a newline: try_fold would wrap the sum in each arm
     let mut sum: usize = 0;
     for piece in text.ansi_aware_chars() {
         match piece {
