@@ -1,4 +1,4 @@
-use Rattle.std.proofs.Common.{◌+◌, ◌≤◌, length, subst, arith}
+use Rattle.std.proofs.Common.{◌+◌, ◌≤◌, length, subst}
 use Rattle.ansi.specs.declared.pieces.Piece.TheVariants.{Char}
 use Rattle.ansi.specs.Reading.{Takes}
 use Rattle.screen.proofs.Stores.{letter-within, letter-put}
@@ -11,12 +11,6 @@ takes g c = subst (λ q. Takes c.loop-piece.piece-iterator q c.next.new.self) c.
 
 within : (g : given.Over) (c : goal.After-width-n g) → c.loop-piece.at + c.width-n.result ≤ length c.loop-piece.cells
 within g c = letter-within g.C.WidthRule.cells c.loop-piece.pen _ _ c.in-Char.c c.width-n.result c.loop-piece.at c.width-n.ensures (takes g (goal.at.After-width-n g c).In-Char) c.loop-piece.invariant
-
-pub put_char-requires : goal.put_char-requires
-put_char-requires g c = within g (goal.at.put_char-requires g c).After-width-n
-
-pub overflow_add-at : goal.overflow_add-at
-overflow_add-at g c = let h = within g (goal.at.overflow_add-at g c).After-width-n in omega arith
 
 pub loop-piece-preserved : goal.loop-piece-preserved
 loop-piece-preserved g c =
