@@ -1,5 +1,5 @@
 -- A call's bytes behind those of an AnsiOut.
-use Rattle.std.proofs.Common.{◌≡◌, ℕ, ◌+◌, ◌-◌, ◌<◌, ◌≤◌, true, List, [], ◌++◌, length, vec_items, vec_len, vec_capacity, sym, refl, ap, ◌∙◌, subst, arith, length-append}
+use Rattle.std.proofs.Common.{◌≡◌, ℕ, ◌+◌, ◌-◌, ◌<◌, ◌≤◌, true, List, [], ◌++◌, length, vec_items, vec_len, vec_capacity, Vec, Global, sym, refl, ap, ◌∙◌, subst, arith, length-append}
 use Rattle.std.specs.Str.{chars}
 use Rattle.style.specs.declared.style.StyleSheet.{StyleSheet}
 use Rattle.width.specs.Widths.{table_cells}
@@ -19,6 +19,8 @@ use Rattle.stream.proofs.Costs.{costs}
 use Rattle.stream.proofs.Cursors.{cursor-found, column-within}
 use Rattle.stream.proofs.Grounded.{grounded-more, grounded-does}
 use Rattle.ansi_out.specs.declared.out.AnsiOut.{AnsiOut}
+use Rattle.ansi_out.specs.Adds.{Adds}
+use Rattle.ansi_out.specs.Still.{Still}
 use Rattle.ansi_out.specs.Pages.{page_at, page_of, blank_page}
 
 -- no bytes
@@ -117,3 +119,10 @@ module _ (s : AnsiOut) (call : Call) (cs : List ℕ) (len cap work : ℕ) where
           paid = omega arith;
         };
       }
+
+-- the bytes of a call that leaves the cursor where it is
+pub sent-still : (s : AnsiOut) (call : Call) (bs : List ℕ) (n : ℕ) (v : Vec ℕ Global) → Still call bs n → 8 ≤ (page_of s).left → Adds s.bytes v bs → Called s call (vec_items v) (vec_len v) (vec_capacity v) (s.work + n)
+sent-still s call bs n v h paid a =
+    called s call (vec_items v) (vec_len v) (vec_capacity v) (s.work + n) h.sound h.typed (h.narrow (page_of s)) (h.above (page_of s)) (omega (arith, h.price))
+    (a.items ∙ ap (λ l. vec_items s.bytes ++ l) (sym h.bytes))
+    (omega (arith, a.len, ap length h.bytes)) a.capacity (omega (arith, h.worth s.width))

@@ -2,17 +2,11 @@
 ghost use Rattle.ansi_out.specs.Pages.{page_of};
 
 use crate::out::AnsiOut;
-use crate::push::{push, push_all, push_move, push_run};
+use crate::push::{push, push_move, push_run};
 use size::TerminalSize;
-use stream::{leftward, rightward};
 use style::StyleSheet;
-use terminal::{Fault, Terminal, check_run};
+use terminal::{COST, Fault, RUN_COST, Terminal, check_run, leftward, rightward};
 use width::Table;
-
-// What a call costs, and what a run costs beside its bytes.
-const COST: usize = 8;
-
-const STYLE_COST: usize = 50;
 
 // There is no line below this one.
 const LAST_LINE: u16 = 65534;
@@ -28,7 +22,7 @@ impl Terminal for AnsiOut {
 
     fn write_styled(&mut self, text: &[u8], style: StyleSheet) -> Result<(), Fault> {
         let (_, cells) = check_run::<Table>(text, self.width - self.col)?;
-        self.check_left(text.len() + STYLE_COST)?;
+        self.check_left(text.len() + RUN_COST)?;
         push_run(&mut self.bytes, text, style);
         self.col += cells;
         self.work += 1;
@@ -53,29 +47,19 @@ impl Terminal for AnsiOut {
     }
 
     fn clear_line(&mut self) -> Result<(), Fault> {
-        self.check_left(COST)?;
-        push_all(&mut self.bytes, b"\x1B[2K");
-        self.work += 1;
-        Ok(())
+        self.send(b"\x1B[2K", 1)
     }
 
     fn clear_until_new_line(&mut self) -> Result<(), Fault> {
-        self.check_left(COST)?;
-        push_all(&mut self.bytes, b"\x1B[K");
-        self.work += 1;
-        Ok(())
+        self.send(b"\x1B[K", 1)
     }
 
     fn cursor_hide(&mut self) -> Result<(), Fault> {
-        self.check_left(COST)?;
-        push_all(&mut self.bytes, b"\x1B[?25l");
-        Ok(())
+        self.send(b"\x1B[?25l", 0)
     }
 
     fn cursor_show(&mut self) -> Result<(), Fault> {
-        self.check_left(COST)?;
-        push_all(&mut self.bytes, b"\x1B[?25h");
-        Ok(())
+        self.send(b"\x1B[?25h", 0)
     }
 
     fn cursor_up(&mut self, cnt: u16) -> Result<(), Fault> {

@@ -2,24 +2,27 @@
 ghost use Rattle.std.specs.Prelude.{◌≡◌, ◌<◌, ◌≤◌, [], vec_capacity, MatchResult};
 ghost use Rattle.width.specs.Widths.{table_cells};
 ghost use Rattle.stream.specs.Law.{Shows};
+ghost use Rattle.terminal.specs.Calls.{Call};
+ghost use Rattle.terminal.specs.Outcomes.{Outcome};
 ghost use Rattle.ansi_out.specs.Pages.{page_of, blank_page, Sizeless, Resized};
+ghost use Rattle.ansi_out.specs.Still.{Still};
 
 use crate::out::AnsiOut;
+use crate::push::push_all;
 use std::str;
 use stream::cursor_column;
-use terminal::Fault;
+use terminal::{COST, Fault};
 use width::Table;
 
 impl AnsiOut {
     /// An empty terminal that sends into a Vec, which is cleared first. Where the width or the height is 0, that is fault 5,
     /// and the Vec comes back as it was.
-    pub fn new(bytes: Vec<u8>, width: u16, height: u16) -> Result<AnsiOut, (Vec<u8>, Fault)>
+    pub fn new(mut bytes: Vec<u8>, width: u16, height: u16) -> Result<AnsiOut, (Vec<u8>, Fault)>
         ensures { MatchResult result (λ s. (page_of s ≡ blank_page width height (vec_capacity bytes)) × (s.bytes.items ≡ []) × (0 < width) × (0 < height)) (λ e. (e.0 ≡ bytes) × Sizeless width height e.1) }
     {
         if width == 0 || height == 0 {
             return Err((bytes, Fault::Size));
         }
-        let mut bytes = bytes;
         bytes.clear();
         Ok(AnsiOut {
             bytes,
@@ -60,8 +63,7 @@ impl AnsiOut {
         ensures value { result ≡ self.bytes }
         ensures page { Shows table_cells result.items (page_of self) }
     {
-        let AnsiOut { bytes, .. } = self;
-        bytes
+        self.bytes
     }
 
     /// How many more bytes there is room for.
@@ -81,11 +83,22 @@ impl AnsiOut {
         Ok(())
     }
 
+    // Sends the bytes of a call that leaves the cursor where it is, and counts its work.
+    pub(crate) fn send(&mut self, bytes: &[u8], work: u64) -> Result<(), Fault>
+        ghost call: { Call }
+        requires { Still call bytes.now work }
+        ensures { Outcome table_cells call (page_of self.old) result (page_of self.new) }
+    {
+        self.check_left(COST)?;
+        push_all(&mut self.bytes, bytes);
+        self.work += work;
+        Ok(())
+    }
+
     /// How many runs and clears were accepted.
     pub fn work(&self) -> u64
         ensures { result ≡ (page_of self.now).work }
     {
-        let work = self.work;
-        work
+        self.work
     }
 }

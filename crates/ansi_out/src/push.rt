@@ -1,4 +1,4 @@
-// Bytes at the end of a Vec, within its capacity.
+// Bytes at the end of a Vec, within its capacity. A struct around the Vec would state the same room and the same bytes.
 ghost use Rattle.std.specs.Prelude.{◌≡◌, ◌+◌, ◌<◌, ◌≤◌, [], ◌∷◌, vec_len, vec_capacity, decimal};
 ghost use Rattle.layout.specs.Writing.{run};
 ghost use Rattle.terminal.specs.Calls.{write};
@@ -14,6 +14,7 @@ pub(crate) fn push(out: &mut Vec<u8>, b: u8)
     out.push_reserved(b);
 }
 
+// Not extend_from_slice, which does not say that the capacity stays.
 pub(crate) fn push_all(out: &mut Vec<u8>, bytes: &[u8])
     requires { Room out.old bytes.now }
     ensures { Adds out.old out.new bytes.now }
@@ -23,6 +24,7 @@ pub(crate) fn push_all(out: &mut Vec<u8>, bytes: &[u8])
     }
 }
 
+// The last digit is found first, so the digits before it are pushed by a call.
 fn push_decimal(out: &mut Vec<u8>, n: u16)
     requires { Room out.old (decimal n) }
     ensures { Adds out.old out.new (decimal n) }
@@ -79,10 +81,7 @@ fn push_color(out: &mut Vec<u8>, base: u8, color: Option<Color>)
         None => {}
         Some(Color::Rgb { r, g, b }) => push_colouring(out, base + 8, &[2, r, g, b]),
         Some(Color::AnsiValue(n)) => push_colouring(out, base + 8, &[5, n]),
-        Some(name) => {
-            let code = short_code(base, name.code().unwrap_or(0));
-            push_colouring(out, code, &[]);
-        }
+        Some(name) => push_colouring(out, short_code(base, name.code().unwrap()), &[]),
     }
 }
 
@@ -96,26 +95,14 @@ fn push_flag(out: &mut Vec<u8>, n: u8, on: bool)
     }
 }
 
-fn is_bold(style: StyleSheet) -> bool
-    ensures { result ≡ style.att.bold }
-{
-    style.att.contains(Attributes::BOLD)
-}
-
-fn is_italic(style: StyleSheet) -> bool
-    ensures { result ≡ style.att.italic }
-{
-    style.att.contains(Attributes::ITALIC)
-}
-
 fn push_style(out: &mut Vec<u8>, style: StyleSheet)
     requires { Room out.old (styling style) }
     ensures { Adds out.old out.new (styling style) }
 {
     push_color(out, 30, style.fg);
     push_color(out, 40, style.bg);
-    push_flag(out, 1, is_bold(style));
-    push_flag(out, 3, is_italic(style));
+    push_flag(out, 1, style.att.contains(Attributes::BOLD));
+    push_flag(out, 3, style.att.contains(Attributes::ITALIC));
 }
 
 // A run: its style, its text, and a plain pen again.

@@ -1,7 +1,9 @@
 -- Stores into a list of cells, one after another.
-use Rattle.std.proofs.Common.{◌≡◌, ℕ, zero, suc, ◌+◌, ◌-◌, ◌^◌, ◌<◌, ◌≤◌, List, [], ◌∷◌, ◌++◌, length, get_or, set, replicate, sym, refl, ap, ◌∙◌, subst, inl, inr, arith, length-append}
+use Rattle.std.proofs.Common.{◌≡◌, ℕ, zero, suc, ◌+◌, ◌-◌, ◌<◌, ◌≤◌, List, [], ◌∷◌, ◌++◌, length, get_or, set, replicate, sym, refl, ap, ◌∙◌, subst, inl, inr, arith, length-append}
 use lib.ListN.{length-replicate}
 use Rattle.std.proofs.lemmas.List.{get_or-set_same, get_or-set_other, length-set, replicate_more}
+use Rattle.std.proofs.Math.Seq.{paste}
+use Rattle.std.proofs.lemmas.List.Edits.{paste_none, length-paste, fill_from_more}
 use Rattle.std.proofs.lemmas.Bool.{cases_eq}
 use Rattle.std.proofs.lemmas.Bool.Decides.{nat_tests}
 use Rattle.style.specs.declared.style.StyleSheet.{StyleSheet}
@@ -21,11 +23,6 @@ stored-none at cs = record { each = λ j h. sym (laid_none at j (cell_at cs j));
 
 pub stored-nothing : (at n : ℕ) (x : page.Cell) (cs : List Cell) → n ≡ 0 → Stored at (spread n x) cs cs
 stored-nothing at n x cs e = subst (λ m. Stored at (spread m x) cs cs) (sym e) (stored-none at cs)
-
--- past the end nothing is stored
-pub stored_past : (at : ℕ) (x : page.Cell) (cs : List Cell) → length cs ≤ at → Stored at (x ∷ []) cs cs
-stored_past at x cs h =
-    record { each = λ j g. let e = laid_one x at j (cell_at cs j) in grind (arith, nat_tests); long = refl }
 
 pub stored_one : (at : ℕ) (c : Cell) (cs : List Cell) → at < length cs → Stored at (cell_of c ∷ []) cs (set cs at c)
 stored_one at c cs h =
@@ -58,20 +55,30 @@ module _ {bs cs ds : List Cell} where
       let e : suc n - 1 ≡ n = omega arith in
       stored-then at (x ∷ []) (replicate n half) f (subst (λ m. Stored (at + 1) (replicate m half) cs ds) e s)
 
--- To store ys from `at` on into cs, which ends within 64 bits, is to store xs from `from` on into bs. It is what a loop
+pub stored-fill : (at : ℕ) (c : Cell) (cs : List Cell) (n : ℕ) → at + n ≤ length cs → Stored at (replicate n (cell_of c)) cs (paste cs at (replicate n c) n)
+stored-fill at c cs zero h = subst (λ ds. Stored at [] cs ds) (paste_none cs at []) (stored-none at cs)
+stored-fill at c cs (suc n) h =
+    let ds = paste cs at (replicate n c) n in
+    let long : length ds ≡ length cs = length-paste cs at (replicate n c) n (omega arith) (omega (arith, length-replicate n c)) in
+    let e : n + 1 ≡ suc n = omega arith in
+    let s = stored_more at n (cell_of c) (stored-fill at c cs n (omega arith)) (stored_one (at + n) c ds (omega arith)) in
+    subst (λ m. Stored at (replicate m (cell_of c)) cs (paste cs at (replicate m c) m)) e
+    (subst (λ es. Stored at (replicate (n + 1) (cell_of c)) cs es) (fill_from_more cs at n c (omega arith)) s)
+
+-- To store ys from `at` on into cs, which reaches so far, is to store xs from `from` on into bs. It is what a loop
 -- over pieces keeps.
 abbrev pub Completes : List page.Cell → ℕ → List Cell → List page.Cell → ℕ → List Cell → Type 0
-Completes ys at cs xs from bs = ((ds : List Cell) → Stored at ys cs ds → Stored from xs bs ds) × (at + length ys < 2 ^ 64)
+Completes ys at cs xs from bs = ((ds : List Cell) → Stored at ys cs ds → Stored from xs bs ds) × (at + length ys ≤ length cs)
 
 module _ {xs : List page.Cell} {from : ℕ} {bs cs : List Cell} where
   completes-more : (ys zs : List page.Cell) (at : ℕ) {ds : List Cell} → Completes (ys ++ zs) at cs xs from bs → Stored at ys cs ds → Completes zs (at + length ys) ds xs from bs
-  completes-more ys zs at h s = (λ es r. h.0 es (stored-then at ys zs s r), omega (arith, h.1, length-append ys zs))
+  completes-more ys zs at h s = (λ es r. h.0 es (stored-then at ys zs s r), omega (arith, h.1, s.long, length-append ys zs))
 
   module _ (cells : ℕ → ℕ) (pen : StyleSheet) (s t : AnsiAwareChars) (c n at : ℕ) (is : n ≡ cells c) (takes : Takes s (Char c) t) (h : Completes (inked cells pen (remaining s)) at cs xs from bs) where
     here : Completes (spread (cells c) (glyph c pen) ++ inked cells pen (remaining t)) at cs xs from bs
     here = subst (λ ps. Completes (inked cells pen ps) at cs xs from bs) takes.pieces h
 
-    pub letter-within : at + n < 2 ^ 64
+    pub letter-within : at + n ≤ length cs
     letter-within = omega (arith, here.1, length-append (spread (cells c) (glyph c pen)) (inked cells pen (remaining t)), spread-length (cells c) (glyph c pen))
 
     -- past a character that was put

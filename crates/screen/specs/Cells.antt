@@ -1,5 +1,5 @@
 -- Cells in a list, line after line, and the page that they are.
-use Rattle.std.specs.Prelude.{◌≡◌, ℕ, ◌/◌, ◌<◌, min, max, List, length, slice_index_or}
+use Rattle.std.specs.Prelude.{◌≡◌, ℕ, ◌<◌, List, length, slice_index_or}
 use Rattle.terminal.specs.Pages as page
 use Rattle.terminal.specs.Calls.{laid}
 use Rattle.screen.specs.declared.cell.Cell.{Cell}
@@ -9,14 +9,6 @@ abbrev pub cell_of : Cell → page.Cell
 cell_of Blank = page.blank
 cell_of (Char c s) = page.glyph c s
 cell_of Half = page.half
-
--- Lines have a cell at least, and there are at most as many as 16 bits can number. Screens that are made within their
--- bounds have the width that they were made with, and all their cells stand on lines.
-abbrev pub columns_of : ℕ → ℕ
-columns_of w = max w 1
-
-abbrev pub lines_of : ℕ → ℕ → ℕ
-lines_of w n = min (n / columns_of w) 65535
 
 -- the cell at a place, as a page has it
 abbrev pub cell_at : List Cell → ℕ → page.Cell

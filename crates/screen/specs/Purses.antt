@@ -1,5 +1,5 @@
 -- What a purse says: how many runs and clears were paid, and what is left for the calls to come.
-use Rattle.std.specs.Prelude.{◌≡◌, ℕ, ◌+◌, ◌-◌, ◌<◌, ◌≤◌, min, Result, MatchResult}
+use Rattle.std.specs.Prelude.{◌≡◌, ℕ, ◌+◌, ◌-◌, ◌<◌, ◌≤◌, Result, MatchResult}
 use Rattle.terminal.specs.Pages.{Page}
 use Rattle.terminal.specs.Calls.{Call, cost}
 use Rattle.terminal.specs.Outcomes.{Outcome}
@@ -8,10 +8,10 @@ use Rattle.terminal.specs.declared.fault.Fault.TheVariants.{Full}
 use Rattle.screen.specs.declared.purse.Purse.{Purse}
 
 abbrev pub work_of : Purse → ℕ
-work_of p = min p.drawn p.total
+work_of p = p.work
 
 abbrev pub left_of : Purse → ℕ
-left_of p = p.total - work_of p
+left_of p = p.left
 
 -- a call of this cost is paid, which is so much work more: p becomes q
 pub record Pays (cost more : ℕ) (p q : Purse) : Type 0 where

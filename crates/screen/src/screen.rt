@@ -1,63 +1,65 @@
 // A terminal over lent cells.
-ghost use Rattle.std.specs.Prelude.{◌≡◌, ◌<◌, length, MatchOption, MatchResult};
+ghost use Rattle.std.specs.Prelude.{◌≡◌, ◌+◌, ◌*◌, ◌^◌, ◌<◌, ◌≤◌, length, MatchOption, MatchResult};
 ghost use Rattle.layout.specs.Writing.{run};
 ghost use Rattle.terminal.specs.Calls.{write, return, feed, clear_line, clear_until_new_line, hide, show, up, down, left, right, flush};
 ghost use Rattle.screen.specs.Cells.{cell_of};
-ghost use Rattle.screen.specs.Purses.{Exactly};
-ghost use Rattle.screen.specs.Screens.{page_of, blank_page};
+ghost use Rattle.screen.specs.Purses.{work_of, left_of, Exactly};
 ghost use Rattle.screen.specs.Sizes.{Sized, Unsized};
 
 use crate::cell::Cell;
-use crate::cells::{columns, fill, lines, put_run};
+use crate::cells::{fill, put_run};
 use crate::purse::Purse;
 use size::{Position, TerminalSize};
 use std::marker::PhantomData;
 use style::StyleSheet;
-use terminal::{Fault, Terminal, check_run};
+use terminal::{COST, Fault, RUN_COST, Terminal, check_run, leftward, rightward};
 use width::WidthRule;
-
-// Whether so many cells are a screen of this size.
-fn check_size(width: u16, height: u16, len: usize) -> Result<(), Fault>
-    ensures { MatchResult result (λ _. Sized width height len) (Unsized width height len) }
-{
-    if width == 0 || height == 0 || height > 1024 || len != width as usize * height as usize {
-        return Err(Fault::Size);
-    }
-    Ok(())
-}
 
 /// A terminal whose lines are cells that were lent.
 #[derive(Drop)]
 pub struct Screen<'a, C> {
     cells: &'a mut [Cell],
     width: u16,
+    height: u16,
     line: u16,
     col: u16,
     shown: bool,
     purse: Purse,
     rule: PhantomData<C>,
+    // the cells are whole lines, and the cursor stands on one of them, or behind its last cell
+    ghost whole: { length cells.now ≡ width * height },
+    ghost size: { (0 < width) × (0 < height) },
+    ghost place: { (line < height) × (col ≤ width) },
+    ghost counted: { work_of purse + left_of purse < 2 ^ 32 },
 }
 
 impl<'a, C: WidthRule> Screen<'a, C> {
+    ghost use Rattle.screen.specs.Screens.{page_of, blank_page};
+
     /// Whether `new` takes these cells at this size: as many as it has, in 1 to 1,024 lines that are not empty.
     pub fn check(cells: &[Cell], width: u16, height: u16) -> Result<(), Fault>
         ensures { MatchResult result (λ _. Sized width height (length cells.now)) (Unsized width height (length cells.now)) }
     {
-        check_size(width, height, cells.len())
+        if width == 0
+            || height == 0
+            || height > 1024
+            || cells.len() != width as usize * height as usize
+        {
+            return Err(Fault::Size);
+        }
+        Ok(())
     }
 
     /// A blank screen. Cells that `check` refuses are not touched.
     pub fn new(cells: &'a mut [Cell], width: u16, height: u16) -> Result<Screen<'a, C>, Fault>
         ensures { MatchResult result (λ s. Sized width height (length cells.old) × (page_of s ≡ blank_page width height 4294967295)) (Unsized width height (length cells.old)) }
     {
-        let len = cells.len();
-        if let Err(fault) = check_size(width, height, len) {
-            return Err(fault);
-        }
-        fill(cells, 0, len, Cell::Blank);
+        Self::check(cells, width, height)?;
+        cells.fill(Cell::Blank);
         Ok(Screen {
             cells,
             width,
+            height,
             line: 0,
             col: 0,
             shown: true,
@@ -70,25 +72,24 @@ impl<'a, C: WidthRule> Screen<'a, C> {
     pub fn cell(&self, line: u16, column: u16) -> Option<Cell>
         ensures { MatchOption result (line < (page_of self.now).lines → column < (page_of self.now).width → ⊥) (λ x. (line < (page_of self.now).lines) × (column < (page_of self.now).width) × (cell_of x ≡ (page_of self.now).cells line column)) }
     {
-        let width = columns(self.width);
-        if line >= lines(self.width, self.cells.len()) || column >= width {
+        if line >= self.height || column >= self.width {
             return None;
         }
-        Some(self.cells[line as usize * width as usize + column as usize])
+        Some(self.cells[line as usize * self.width as usize + column as usize])
     }
 
     /// The cells of a line.
     pub fn width(&self) -> u16
         ensures { result ≡ (page_of self.now).width }
     {
-        columns(self.width)
+        self.width
     }
 
     /// How many lines there are.
     pub fn lines(&self) -> u16
         ensures { result ≡ (page_of self.now).lines }
     {
-        lines(self.width, self.cells.len())
+        self.height
     }
 
     pub fn cursor(&self) -> Position
@@ -96,7 +97,7 @@ impl<'a, C: WidthRule> Screen<'a, C> {
     {
         Position {
             row: self.line,
-            col: self.col.min(columns(self.width)),
+            col: self.col,
         }
     }
 
@@ -104,6 +105,13 @@ impl<'a, C: WidthRule> Screen<'a, C> {
         ensures { result ≡ (page_of self.now).shown }
     {
         self.shown
+    }
+
+    // Where the cells of the cursor's line begin.
+    fn line_start(&self) -> usize
+        ensures { result ≡ self.now.line * self.now.width }
+    {
+        self.line as usize * self.width as usize
     }
 
     /// How much the calls to come may cost.
@@ -122,32 +130,31 @@ impl<'a, C: WidthRule> Screen<'a, C> {
 }
 
 impl<'a, C: WidthRule> Terminal for Screen<'a, C> {
+    ghost use Rattle.screen.specs.Screens.{page_of};
+
     type Width = C;
 
     ghost page = { page_of };
 
     fn get_size(&self) -> Result<Option<TerminalSize>, Fault> {
-        let height = lines(self.width, self.cells.len()).max(1);
-        Ok(TerminalSize::new(columns(self.width), height))
+        Ok(TerminalSize::new(self.width, self.height))
     }
 
     fn write_styled(&mut self, text: &[u8], style: StyleSheet) -> Result<(), Fault>
         ensures { Exactly C.WidthRule.cells (write (run text.now style)) (page_of self.old) result (page_of self.new) }
     {
-        let width = columns(self.width);
-        let col = self.col.min(width);
-        let (run, cells) = check_run::<C>(text, width - col)?;
-        self.purse.pay(text.len() + 50, 1)?;
-        let at = self.line as usize * width as usize + col as usize;
+        let (run, cells) = check_run::<C>(text, self.width - self.col)?;
+        self.purse.pay(text.len() + RUN_COST, 1)?;
+        let at = self.line_start() + self.col as usize;
         put_run::<C>(self.cells, at, run, style);
-        self.col = col + cells;
+        self.col += cells;
         Ok(())
     }
 
     fn carriage_return(&mut self) -> Result<(), Fault>
         ensures { Exactly C.WidthRule.cells return (page_of self.old) result (page_of self.new) }
     {
-        self.purse.pay(8, 0)?;
+        self.purse.pay(COST, 0)?;
         self.col = 0;
         Ok(())
     }
@@ -161,28 +168,26 @@ impl<'a, C: WidthRule> Terminal for Screen<'a, C> {
     fn clear_line(&mut self) -> Result<(), Fault>
         ensures { Exactly C.WidthRule.cells clear_line (page_of self.old) result (page_of self.new) }
     {
-        self.purse.pay(8, 1)?;
-        let width = columns(self.width) as usize;
-        let from = self.line as usize * width;
-        fill(self.cells, from, width, Cell::Blank);
+        self.purse.pay(COST, 1)?;
+        let from = self.line_start();
+        fill(self.cells, from, self.width as usize, Cell::Blank);
         Ok(())
     }
 
     fn clear_until_new_line(&mut self) -> Result<(), Fault>
         ensures { Exactly C.WidthRule.cells clear_until_new_line (page_of self.old) result (page_of self.new) }
     {
-        self.purse.pay(8, 1)?;
-        let width = columns(self.width);
-        let col = self.col.min(width);
-        let from = self.line as usize * width as usize + col as usize;
-        fill(self.cells, from, (width - col) as usize, Cell::Blank);
+        self.purse.pay(COST, 1)?;
+        let from = self.line_start() + self.col as usize;
+        let n = (self.width - self.col) as usize;
+        fill(self.cells, from, n, Cell::Blank);
         Ok(())
     }
 
     fn cursor_hide(&mut self) -> Result<(), Fault>
         ensures { Exactly C.WidthRule.cells hide (page_of self.old) result (page_of self.new) }
     {
-        self.purse.pay(8, 0)?;
+        self.purse.pay(COST, 0)?;
         self.shown = false;
         Ok(())
     }
@@ -190,7 +195,7 @@ impl<'a, C: WidthRule> Terminal for Screen<'a, C> {
     fn cursor_show(&mut self) -> Result<(), Fault>
         ensures { Exactly C.WidthRule.cells show (page_of self.old) result (page_of self.new) }
     {
-        self.purse.pay(8, 0)?;
+        self.purse.pay(COST, 0)?;
         self.shown = true;
         Ok(())
     }
@@ -198,7 +203,7 @@ impl<'a, C: WidthRule> Terminal for Screen<'a, C> {
     fn cursor_up(&mut self, cnt: u16) -> Result<(), Fault>
         ensures { Exactly C.WidthRule.cells (up cnt) (page_of self.old) result (page_of self.new) }
     {
-        self.purse.pay(8, 0)?;
+        self.purse.pay(COST, 0)?;
         self.line = self.line.saturating_sub(cnt);
         Ok(())
     }
@@ -207,10 +212,10 @@ impl<'a, C: WidthRule> Terminal for Screen<'a, C> {
         ensures { Exactly C.WidthRule.cells (down cnt) (page_of self.old) result (page_of self.new) }
     {
         let line = self.line.saturating_add(cnt);
-        if line >= lines(self.width, self.cells.len()) {
+        if line >= self.height {
             return Err(Fault::Bottom);
         }
-        self.purse.pay(8, 0)?;
+        self.purse.pay(COST, 0)?;
         self.line = line;
         Ok(())
     }
@@ -218,28 +223,22 @@ impl<'a, C: WidthRule> Terminal for Screen<'a, C> {
     fn cursor_left(&mut self, cnt: u16) -> Result<(), Fault>
         ensures { Exactly C.WidthRule.cells (left cnt) (page_of self.old) result (page_of self.new) }
     {
-        self.purse.pay(8, 0)?;
-        if cnt > 0 {
-            let last = columns(self.width) - 1;
-            self.col = self.col.min(last).saturating_sub(cnt);
-        }
+        self.purse.pay(COST, 0)?;
+        self.col = leftward(self.width, cnt, self.col);
         Ok(())
     }
 
     fn cursor_right(&mut self, cnt: u16) -> Result<(), Fault>
         ensures { Exactly C.WidthRule.cells (right cnt) (page_of self.old) result (page_of self.new) }
     {
-        self.purse.pay(8, 0)?;
-        if cnt > 0 {
-            let last = columns(self.width) - 1;
-            self.col = self.col.min(last).saturating_add(cnt).min(last);
-        }
+        self.purse.pay(COST, 0)?;
+        self.col = rightward(self.width, cnt, self.col);
         Ok(())
     }
 
     fn flush(&mut self) -> Result<(), Fault>
         ensures { Exactly C.WidthRule.cells flush (page_of self.old) result (page_of self.new) }
     {
-        self.purse.pay(8, 0)
+        self.purse.pay(COST, 0)
     }
 }

@@ -3,57 +3,32 @@ ghost use Rattle.std.specs.Prelude.{◌≡◌, min, true, false, MatchOption};
 ghost use Rattle.ansi.specs.Pieces.{letter};
 ghost use Rattle.pen.specs.Sequences.{parameters};
 ghost use Rattle.terminal.specs.Pages.{at};
-ghost use Rattle.terminal.specs.Calls.{leftward, rightward};
 ghost use Rattle.stream.specs.Controls.{first_number, asked};
 ghost use Rattle.stream.specs.Cursors.{moved, placed, cursor_of};
 ghost use Rattle.stream.specs.Law.{ReadsBack};
 
 use ansi::{AnsiAware, Piece};
+use terminal::{leftward, rightward};
 use width::WidthRule;
 
 const ESC: u8 = 0x1B;
 
 const BRACKET: u8 = b'[';
 
-/// The column after a move to the left, on a line of `width` cells.
-pub fn leftward(width: u16, cnt: u16, col: u16) -> u16
-    ensures { result ≡ leftward width cnt col }
-{
-    if cnt == 0 {
-        return col;
-    }
-    col.min(width.saturating_sub(1)).saturating_sub(cnt)
-}
-
-/// The column after a move to the right, on a line of `width` cells.
-pub fn rightward(width: u16, cnt: u16, col: u16) -> u16
-    ensures { result ≡ rightward width cnt col }
-{
-    if cnt == 0 {
-        return col;
-    }
-    let last = width.saturating_sub(1);
-    col.min(last).saturating_add(cnt).min(last)
-}
-
 // The first number of the parameters of a control sequence, 65,535 where it is larger; none for other bytes.
 fn first_number(bytes: &[u8]) -> Option<u16>
     ensures { MatchOption result (parameters bytes.now ≡ false) (λ n. (parameters bytes.now ≡ true) × (n ≡ min (first_number bytes.now) 65535)) }
 {
     let mut n: u16 = 0;
+    // a chain of take_while and fold did not prove
     let mut first = true;
-    let mut rest = bytes;
-    while let Some((b, later)) = rest.split_first() {
+    for b in bytes {
         match *b {
-            b'0'..=b'9' => {
-                if first {
-                    n = n.saturating_mul(10).saturating_add(u16::from(*b - b'0'));
-                }
-            }
             b';' => first = false,
+            b'0'..=b'9' if first => n = n.saturating_mul(10).saturating_add(u16::from(*b - b'0')),
+            b'0'..=b'9' => {}
             _ => return None,
         }
-        rest = later;
     }
     Some(n)
 }
@@ -63,16 +38,11 @@ fn column_behind(sequence: &[u8], width: u16, col: u16) -> u16
     ensures { result ≡ (moved (λ _. 0) width (asked sequence.now) (at 0 col)).col }
 {
     match sequence {
-        [ESC, BRACKET, .., last] => {
-            let Some(n) = first_number(&sequence[2..sequence.len() - 1]) else {
-                return col;
-            };
-            match *last {
-                b'C' => rightward(width, n.max(1), col),
-                b'D' => leftward(width, n.max(1), col),
-                _ => col,
-            }
-        }
+        [ESC, BRACKET, middle @ .., last] => match (first_number(middle), *last) {
+            (Some(n), b'C') => rightward(width, n.max(1), col),
+            (Some(n), b'D') => leftward(width, n.max(1), col),
+            _ => col,
+        },
         _ => col,
     }
 }

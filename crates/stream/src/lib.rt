@@ -4,4 +4,5 @@
 
 mod column;
 
-pub use column::{cursor_column, leftward, rightward};
+pub use column::cursor_column;
+pub use terminal::{leftward, rightward};

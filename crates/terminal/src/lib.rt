@@ -3,9 +3,11 @@
 #![tactic(auto)]
 
 mod fault;
+mod moves;
 mod run;
 mod terminal;
 
 pub use fault::{CallKind, Fault};
+pub use moves::{leftward, rightward};
 pub use run::check_run;
-pub use terminal::Terminal;
+pub use terminal::{COST, RUN_COST, Terminal};

@@ -15,6 +15,7 @@ use width::WidthRule;
 fn line_cells<C: WidthRule>(text: &str) -> Option<usize>
     ensures { MatchOption result (AllByRecursion (λ p. is_line p ≡ false) (pieces text.now) → ⊥) (λ n. AllByRecursion (λ p. is_line p ≡ false) (pieces text.now) × (n ≡ min (span C.WidthRule.cells (pieces text.now)) (2 ^ 64 - 1))) }
 {
+    // a loop that stops at a newline: try_fold would wrap the sum in each arm
     let mut sum: usize = 0;
     for piece in text.ansi_aware_chars() {
         match piece {
@@ -30,12 +31,8 @@ fn line_cells<C: WidthRule>(text: &str) -> Option<usize>
 pub fn check_run<C: WidthRule>(text: &[u8], room: u16) -> Result<(&str, u16), Fault>
     ensures { MatchResult result (λ x. (x.0.now ≡ text.now) × Fitting C.WidthRule.cells text.now room x.1) (Misfit C.WidthRule.cells text.now room) }
 {
-    let Ok(text) = check_text(text) else {
-        return Err(Fault::Text);
-    };
-    let Some(cells) = line_cells::<C>(text) else {
-        return Err(Fault::Text);
-    };
+    let text = check_text(text).map_err(|_| Fault::Text)?;
+    let cells = line_cells::<C>(text).ok_or(Fault::Text)?;
     if cells > usize::from(room) {
         return Err(Fault::Wide);
     }

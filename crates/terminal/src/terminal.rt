@@ -11,6 +11,12 @@ use size::TerminalSize;
 use style::StyleSheet;
 use width::WidthRule;
 
+/// What a call costs.
+pub const COST: usize = 8;
+
+/// What a run costs beside its bytes.
+pub const RUN_COST: usize = 50;
+
 /// A terminal, by the page that it shows. Each call is performed, or it faults and nothing changes.
 pub trait Terminal {
     /// The width rule that the page is drawn with.

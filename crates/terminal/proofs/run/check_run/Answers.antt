@@ -17,11 +17,11 @@ module _ (cells : ℕ → ℕ) (text : List ℕ) (room n : ℕ) (line : OneLine 
 pub returns-then-cells-from : goal.returns-then-cells-from
 returns-then-cells-from g c =
     let line : OneLine c.args.text.now = search rules in
-    let counted : c.in-Some.cells ≡ min (span g.C.WidthRule.cells (pieces c.args.text.now)) (2 ^ 64 - 1) = search rules in
-    too_wide g.C.WidthRule.cells c.args.text.now c.args.room c.in-Some.cells line counted (omega arith) (omega arith)
+    let counted : c.in_ok-cells.cells ≡ min (span g.C.WidthRule.cells (pieces c.args.text.now)) (2 ^ 64 - 1) = search rules in
+    too_wide g.C.WidthRule.cells c.args.text.now c.args.room c.in_ok-cells.cells line counted (omega arith) (omega arith)
 
 pub returns : goal.returns
 returns g c =
     let line : OneLine c.args.text.now = search rules in
-    let counted : c.in-Some.cells ≡ min (span g.C.WidthRule.cells (pieces c.args.text.now)) (2 ^ 64 - 1) = search rules in
-    (search rules, fits g.C.WidthRule.cells c.args.text.now c.args.room c.in-Some.cells line counted (omega arith) (omega arith))
+    let counted : c.in_ok-cells.cells ≡ min (span g.C.WidthRule.cells (pieces c.args.text.now)) (2 ^ 64 - 1) = search rules in
+    (search rules, fits g.C.WidthRule.cells c.args.text.now c.args.room c.in_ok-cells.cells line counted (omega arith) (omega arith))

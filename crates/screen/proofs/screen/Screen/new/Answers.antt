@@ -1,7 +1,0 @@
-use Rattle.screen.proofs.Places.{blanked}
-use Rattle.screen.proofs.screen.Screen.new.Goals as goal
-
-pub returns : goal.returns
-returns g c =
-    let sized = c.in_default.ensures in
-    (sized, blanked c.args.width c.args.height 4294967295 c.args.cells.now c.fill.new.cells c.new.result sized c.fill.ensures c.new.ensures.0 c.new.ensures.1)
