@@ -1,4 +1,4 @@
-use Rattle.std.proofs.Common.{◌≡◌, List, [], drop, arith, rules}
+use Rattle.std.proofs.Common.{◌≡◌, [], drop, arith, rules}
 use Rattle.std.proofs.Math.ListN.{drop_of_length-le}
 use Rattle.stream.proofs.Numbers.{reads_first}
 use Rattle.stream.proofs.column.first_number.Goals as goal
