@@ -29,6 +29,7 @@ impl Terminal for AnsiOut {
         Ok(())
     }
 
+    // A call that moves the cursor sets it itself: a method that all of them called would have to be told where it goes.
     fn carriage_return(&mut self) -> Result<(), Fault> {
         self.check_left(COST)?;
         push(&mut self.bytes, b'\r');

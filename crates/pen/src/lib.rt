@@ -8,4 +8,4 @@ mod sequence;
 
 pub use check::check_text;
 pub use pen::steer;
-pub use sequence::colour_parameters;
+pub use sequence::{BRACKET, ESC, colour_parameters};

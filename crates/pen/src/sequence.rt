@@ -2,10 +2,11 @@
 ghost use Rattle.std.specs.Prelude.{◌≡◌, ℕ, true, false, List, MatchOption};
 ghost use Rattle.pen.specs.Sequences.{parameters, Colours, ColoursTold, is_colour, between};
 
-// Named in stream too: public names for two bytes would be no plainer.
-const ESC: u8 = 0x1B;
+/// With it an escape sequence begins.
+pub const ESC: u8 = 0x1B;
 
-const BRACKET: u8 = b'[';
+/// Behind ESC, with it a control sequence begins.
+pub const BRACKET: u8 = b'[';
 
 const FINAL: u8 = b'm';
 

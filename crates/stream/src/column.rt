@@ -8,12 +8,9 @@ ghost use Rattle.stream.specs.Cursors.{moved, placed, cursor_of};
 ghost use Rattle.stream.specs.Law.{ReadsBack};
 
 use ansi::{AnsiAware, Piece};
+use pen::{BRACKET, ESC};
 use terminal::{leftward, rightward};
 use width::WidthRule;
-
-const ESC: u8 = 0x1B;
-
-const BRACKET: u8 = b'[';
 
 // The first number of the parameters of a control sequence, 65,535 where it is larger; none for other bytes.
 fn first_number(bytes: &[u8]) -> Option<u16>

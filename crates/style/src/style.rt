@@ -67,7 +67,7 @@ impl Attributes {
         }
     }
 
-    /// The number of these attributes: bold counts 1 and italic 2.
+    /// The number of these attributes: bold counts 1 and italic 2. No `From`: `bits` is the name that flags have for it.
     pub fn bits(&self) -> u8
         ensures { result ≡ bits_of self.now }
     {
