@@ -13,7 +13,7 @@ pub(crate) fn first(text: &str) -> Option<(char, &str)>
     Some((c, chars.as_str()))
 }
 
-// What is being read of an escape sequence.
+// What is being read of an escape sequence. It is an enum, since a function for the next state may not be handed out.
 #[derive(Clone, Copy)]
 pub(crate) enum AnsiMatcher {
     Escape,

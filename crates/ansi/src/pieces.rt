@@ -65,12 +65,12 @@ impl<'a> Iterator for AnsiAwareChars<'a> {
     #[tactic(auto, using(crate::proofs::Takes::cut, crate::proofs::Takes::takes_escape, crate::proofs::Takes::takes_letter))]
     fn next(&mut self) -> Option<Piece<'a>> {
         let input = self.input;
+        let place = self.place();
         let (c, rest) = first(input)?;
         self.input = rest;
         if c != '\x1B' {
             return Some(Piece::Char(c));
         }
-        let place = self.len - input.len();
         self.input = behind_sequence(rest);
         let text = &input[..input.len() - self.input.len()];
         Some(Piece::Escape { text, place })

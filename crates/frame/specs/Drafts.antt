@@ -27,6 +27,9 @@ rule_by columns c r = rule_at columns c.cells r.seed r.step
 abbrev pub hashing : ℕ → (ℕ → ℕ → ℕ) → Rule
 hashing seed step = rule_at 0 (λ c. 0) seed step
 
+abbrev pub hashing_by : {R : Type 0} → RowHash R → Rule
+hashing_by r = hashing r.seed r.step
+
 -- the current run in the open row, if it joins
 abbrev pub joined_frame : Frame → Frame
 joined_frame f = record { rows = f.rows; runs = joined_runs f; text = cond (some f.text || not (is_plain f.style)) [] f.text; style = f.style; width = f.width; hash = f.hash }

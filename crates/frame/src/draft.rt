@@ -8,7 +8,7 @@ ghost use Rattle.layout.specs.Writing.{some, closed, carried, folding, newline, 
 ghost use Rattle.store.specs.Piles.{runs_of};
 ghost use Rattle.store.specs.Stores.{pile_of};
 ghost use Rattle.style.specs.Styles.{is_plain};
-ghost use Rattle.frame.specs.Drafts.{frame_of, joined_frame, added_frame, carried_to, hashing, rule_by};
+ghost use Rattle.frame.specs.Drafts.{frame_of, joined_frame, added_frame, carried_to, hashing_by, rule_by};
 
 use ansi::{AnsiAware, Piece};
 use layout::{feed_piece, folds, open_hash};
@@ -32,8 +32,8 @@ pub(crate) struct Draft<R> {
 impl<R: RowHash> Draft<R> {
     // Bytes join the current run, and make the open row so wide.
     fn carry(&mut self, text: &str, width: u16)
-        requires { Within (tally_of (carried_to (hashing R.RowHash.seed R.RowHash.step) text.now width (frame_of self.old))) }
-        ensures { frame_of self.new ≡ carried_to (hashing R.RowHash.seed R.RowHash.step) text.now width (frame_of self.old) }
+        requires { Within (tally_of (carried_to (hashing_by R.RowHash) text.now width (frame_of self.old))) }
+        ensures { frame_of self.new ≡ carried_to (hashing_by R.RowHash) text.now width (frame_of self.old) }
     {
         self.hash = feed_piece::<R>(self.hash, text.as_bytes(), self.style);
         self.width = width;
@@ -60,8 +60,8 @@ impl<R: RowHash> Draft<R> {
 
     // The open row is closed; without runs it is added only if asked for.
     pub(crate) fn close_row(&mut self, always: bool)
-        requires { Within (tally_of (closed (hashing R.RowHash.seed R.RowHash.step) always (frame_of self.old))) }
-        ensures { frame_of self.new ≡ closed (hashing R.RowHash.seed R.RowHash.step) always (frame_of self.old) }
+        requires { Within (tally_of (closed (hashing_by R.RowHash) always (frame_of self.old))) }
+        ensures { frame_of self.new ≡ closed (hashing_by R.RowHash) always (frame_of self.old) }
     {
         self.join_run();
         if always || self.store.has_runs() {
@@ -73,9 +73,9 @@ impl<R: RowHash> Draft<R> {
 
     // The open row is closed where it has no room for so many cells.
     fn fold(&mut self, columns: u16, cells: u16)
-        requires room { nat_lt (columns - self.old.width) cells ≡ true → Within (tally_of (closed (hashing R.RowHash.seed R.RowHash.step) false (frame_of self.old))) }
+        requires room { nat_lt (columns - self.old.width) cells ≡ true → Within (tally_of (closed (hashing_by R.RowHash) false (frame_of self.old))) }
         requires few { cells ≤ 2 }
-        ensures value { frame_of self.new ≡ (if ltb (columns - self.old.width) cells then closed (hashing R.RowHash.seed R.RowHash.step) false (frame_of self.old) else frame_of self.old) }
+        ensures value { frame_of self.new ≡ (if ltb (columns - self.old.width) cells then closed (hashing_by R.RowHash) false (frame_of self.old) else frame_of self.old) }
         ensures narrow { self.new.width + cells < 2 ^ 16 }
     {
         if folds(columns, self.width, cells) {
@@ -97,8 +97,8 @@ impl<R: RowHash> Draft<R> {
 
     // A newline is fed to the row that it closes.
     fn put_newline(&mut self)
-        requires { Within (tally_of (newline (hashing R.RowHash.seed R.RowHash.step) (frame_of self.old))) }
-        ensures { frame_of self.new ≡ newline (hashing R.RowHash.seed R.RowHash.step) (frame_of self.old) }
+        requires { Within (tally_of (newline (hashing_by R.RowHash) (frame_of self.old))) }
+        ensures { frame_of self.new ≡ newline (hashing_by R.RowHash) (frame_of self.old) }
     {
         self.hash = feed_piece::<R>(self.hash, b"\n", self.style);
         self.close_row(true);
@@ -106,8 +106,8 @@ impl<R: RowHash> Draft<R> {
 
     // An escape sequence takes no cell.
     fn put_escape(&mut self, text: &str)
-        requires { Within (tally_of (carried (hashing R.RowHash.seed R.RowHash.step) text.now 0 (frame_of self.old))) }
-        ensures { frame_of self.new ≡ carried (hashing R.RowHash.seed R.RowHash.step) text.now 0 (frame_of self.old) }
+        requires { Within (tally_of (carried (hashing_by R.RowHash) text.now 0 (frame_of self.old))) }
+        ensures { frame_of self.new ≡ carried (hashing_by R.RowHash) text.now 0 (frame_of self.old) }
     {
         self.carry(text, self.width);
     }
@@ -155,8 +155,8 @@ impl<R: RowHash> Draft<R> {
 
     // The open row is closed, and the style becomes plain.
     pub(crate) fn finish(&mut self)
-        requires { Within (tally_of (closed (hashing R.RowHash.seed R.RowHash.step) false (frame_of self.old))) }
-        ensures { frame_of self.new ≡ finished (hashing R.RowHash.seed R.RowHash.step) (frame_of self.old) }
+        requires { Within (tally_of (closed (hashing_by R.RowHash) false (frame_of self.old))) }
+        ensures { frame_of self.new ≡ finished (hashing_by R.RowHash) (frame_of self.old) }
     {
         self.close_row(false);
         self.style = StyleSheet::empty();
@@ -164,7 +164,7 @@ impl<R: RowHash> Draft<R> {
     }
 
     pub(crate) fn clear(&mut self)
-        ensures { frame_of self.new ≡ fresh (hashing R.RowHash.seed R.RowHash.step) [] }
+        ensures { frame_of self.new ≡ fresh (hashing_by R.RowHash) [] }
     {
         self.store.clear();
         self.style = StyleSheet::empty();

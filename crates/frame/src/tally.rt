@@ -1,4 +1,5 @@
-// What a frame would hold, counted before anything is stored.
+// What a frame would hold, counted before anything is stored. The steps are those of `Draft`, which stores: there on a frame,
+// here on counts, and each has its own contract.
 ghost use Rattle.std.specs.Prelude.{◌≡◌, ℕ, ◌+◌, ◌-◌, ◌^◌, ◌<◌, ◌≤◌, false, List, length, if◌then◌else◌, nat_lt};
 ghost use Rattle.ansi.specs.Pieces.{bytes, pieces};
 ghost use Rattle.ansi.specs.Reading.{part};

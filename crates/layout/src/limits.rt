@@ -1,4 +1,5 @@
-// How much a frame may hold.
+// How much a frame may hold. The functions are on numbers and booleans, since the counts that they are asked of are a type
+// of a crate above.
 ghost use Rattle.std.specs.Prelude.{◌≡◌, not, ◌||◌};
 ghost use Rattle.layout.specs.Tally.{within_limits};
 ghost use Rattle.layout.specs.Counting.{CountsFollow, FitsBefore};

@@ -69,8 +69,8 @@ impl Pen {
     fn tell(self, n: u16) -> Pen
         ensures { result ≡ told self n }
     {
-        match self.expect {
-            Expect::Code => match n {
+        match (self.expect, u8::try_from(n)) {
+            (Expect::Code, _) => match n {
                 38 => self.expecting(Expect::Form(Side::Fore)),
                 48 => self.expecting(Expect::Form(Side::Back)),
                 _ => Pen {
@@ -78,15 +78,15 @@ impl Pen {
                     ..self
                 },
             },
-            Expect::Form(side) => match n {
+            (Expect::Form(side), _) => match n {
                 5 => self.expecting(Expect::Index(side)),
                 2 => self.expecting(Expect::Red(side)),
                 _ => self.expecting(Expect::Dropped),
             },
-            Expect::Index(side) if n <= 255 => self.painted(side, Color::AnsiValue(n as u8)),
-            Expect::Red(side) if n <= 255 => self.expecting(Expect::Green(side, n as u8)),
-            Expect::Green(side, r) if n <= 255 => self.expecting(Expect::Blue(side, r, n as u8)),
-            Expect::Blue(side, r, g) if n <= 255 => self.painted(side, Color::rgb(r, g, n as u8)),
+            (Expect::Index(side), Ok(n)) => self.painted(side, Color::AnsiValue(n)),
+            (Expect::Red(side), Ok(n)) => self.expecting(Expect::Green(side, n)),
+            (Expect::Green(side, r), Ok(n)) => self.expecting(Expect::Blue(side, r, n)),
+            (Expect::Blue(side, r, g), Ok(n)) => self.painted(side, Color::rgb(r, g, n)),
             _ => self.expecting(Expect::Dropped),
         }
     }

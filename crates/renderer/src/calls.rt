@@ -33,30 +33,23 @@ impl<T: Terminal, R: RowHash> Resting<T, R> {
 
     /// Begins an empty frame, at the size of the terminal. Refused at one column (6), and where the last frame does not fit,
     /// wrapped anew (4); the renderer is then handed back as it was.
-    pub(crate) fn start(self) -> Result<Drawing<T, R>, (Resting<T, R>, RenderError)>
+    pub(crate) fn start(mut self) -> Result<Drawing<T, R>, (Resting<T, R>, RenderError)>
         ensures { MatchResult result (λ d. Step (rules_by T.Width.WidthRule R.RowHash) (accepted start) (rests T.Terminal.page self) (draws T.Terminal.page d)) (λ x. Step (rules_by T.Width.WidthRule R.RowHash) (refused start x.1) (rests T.Terminal.page self) (rests T.Terminal.page x.0)) }
     {
+        let size = taken_size(&self.terminal);
+        if let Err(e) = self.frames.start(size) {
+            return Err((self, e));
+        }
         let Resting {
             terminal,
             cursor_position,
-            mut frames,
+            frames,
         } = self;
-        let size = taken_size(&terminal);
-        match frames.start(size) {
-            Ok(()) => Ok(Drawing {
-                terminal,
-                cursor_position: correct(cursor_position, size),
-                frames,
-            }),
-            Err(e) => {
-                let resting = Resting {
-                    terminal,
-                    cursor_position,
-                    frames,
-                };
-                Err((resting, e))
-            }
-        }
+        Ok(Drawing {
+            terminal,
+            cursor_position: correct(cursor_position, size),
+            frames,
+        })
     }
 }
 

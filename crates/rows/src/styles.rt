@@ -44,10 +44,11 @@ impl FromStr for Shade {
                 _ => Err(Fault::NotUnderstood),
             };
         }
-        match NAMES.iter().find(|(name, _)| *name == word) {
-            Some((_, color)) => Ok(Shade(*color)),
-            None => Err(Fault::NotUnderstood),
-        }
+        NAMES
+            .iter()
+            .find(|(name, _)| *name == word)
+            .map(|(_, color)| Shade(*color))
+            .ok_or(Fault::NotUnderstood)
     }
 }
 
@@ -56,10 +57,7 @@ impl fmt::Display for Shade {
         match self.0 {
             Color::Rgb { r, g, b } => write!(f, "rgb:{r}:{g}:{b}"),
             Color::AnsiValue(n) => write!(f, "n:{n}"),
-            named => match NAMES.iter().find(|(_, color)| *color == named) {
-                Some((name, _)) => f.write_str(*name),
-                None => Ok(()),
-            },
+            named => write!(f, "{named:?}"),
         }
     }
 }

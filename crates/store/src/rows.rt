@@ -19,7 +19,7 @@ pub struct Row<'a> {
 impl Row<'_> {
     ghost use Rattle.store.specs.Walks.{row_of};
 
-    /// Whether it equals another one: in width, hash, and each run's text and style.
+    /// Whether it equals another one: in width, hash, and each run's text and style. A method as `Runs::same` is.
     pub(crate) fn same(&self, other: &Row<'_>) -> bool
         ensures { Decides result (row_of self.now ≡ row_of other.now) }
     {

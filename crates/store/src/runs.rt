@@ -46,7 +46,7 @@ impl<'a> Runs<'a> {
         &self.bytes[first.from..last.to]
     }
 
-    /// Whether they are those of `other`: in number, and each in text and style.
+    /// Whether they are those of `other`: in number, and each in text and style. A method and no `==`, whose laws nothing needs.
     pub(crate) fn same(&self, other: &Runs<'_>) -> bool
         ensures { Decides result (runs_left self.now ≡ runs_left other.now) }
     {

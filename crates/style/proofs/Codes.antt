@@ -1,8 +1,16 @@
 -- The codes of the named colours.
-use Rattle.std.proofs.Common.{◌≡◌, ℕ, zero, suc, ◌+◌, List, [], ◌∷◌, IfSome, Some, Option, ap, ◌∙◌, subst, zero-add, arith, rules}
+use Rattle.std.proofs.Common.{◌≡◌, ℕ, zero, suc, ◌+◌, List, [], ◌∷◌, IfSome, Some, None, Option, sym, ap, ◌∙◌, subst, zero-add, arith, Bor, rules}
+use Rattle.std.specs.Option.{option_map}
+use Rattle.std.specs.Slice.{IsGetResult}
 use Rattle.std.specs.List.{slice_get}
+use Rattle.std.proofs.lemmas.Option.{slice_get-get_or, slice_get_past}
 use Rattle.style.specs.declared.color.Color.{Color}
 use Rattle.style.specs.Colors.{code_of, names, named, CodesName}
+
+-- What `get` finds, copied, is the element at that place.
+pub picked : {X : Type 0} (xs : List X) (i : ℕ) (r : Option (Bor X)) → IsGetResult xs i i r → option_map (λ x. x.now) r ≡ slice_get xs i
+picked xs i None h = sym (slice_get_past xs i h.3)
+picked xs i (Some x) h = ap Some h.1 ∙ sym (slice_get-get_or xs i x.now h.3.0)
 
 -- The code of a named colour names it.
 code-names : (c : Color) → IfSome (code_of c) (λ n. named n ≡ Some c)

@@ -6,7 +6,7 @@ use Rattle.style.specs.declared.color.Color.TheVariants.{Rgb, AnsiValue}
 use Rattle.style.specs.declared.style.Attributes.{Attributes}
 use Rattle.style.specs.declared.style.StyleSheet.{StyleSheet}
 use Rattle.style.specs.Attrs.{bits_of}
-use Rattle.style.specs.Bytes.{optional_bytes, style_bytes}
+use Rattle.style.specs.Bytes.{color_bytes, optional_bytes, style_bytes}
 use Rattle.style.specs.Colors.{named}
 
 -- The colour, if any, with this kind and three other bytes.
@@ -27,6 +27,9 @@ optional-len o = search rules
 
 same-optional : (o p : Option Color) → optional_bytes o ≡ optional_bytes p → o ≡ p
 same-optional o p e = sym (read-optional o) ∙ ap read e ∙ read-optional p
+
+pub same-color : (c d : Color) → color_bytes c ≡ color_bytes d → c ≡ d
+same-color c d e = let some : Some c ≡ Some d = same-optional (Some c) (Some d) e in cc
 
 same_bits : (a b : Attributes) → bits_of a ≡ bits_of b → a ≡ b
 same_bits a b e = search rules

@@ -14,7 +14,7 @@ use std::ops::BitOr;
 /// Attributes of text. They are flags and can be combined.
 ///
 /// Italic stands first, so that the derived order is that of the numbers.
-#[derive(PartialEq, Eq, PartialOrd, Ord, Hash, Debug, Default, Clone, Copy)]
+#[derive(PartialEq, Eq, PartialOrd, Ord, Hash, Debug, Clone, Copy)]
 pub struct Attributes {
     italic: bool,
     bold: bool,
@@ -110,7 +110,7 @@ impl BitOr<Attributes> for Attributes {
 }
 
 /// The colours and attributes of a text.
-#[derive(Copy, Clone, Debug, Default, PartialEq, Eq, Hash)]
+#[derive(Copy, Clone, Debug, PartialEq, Eq, Hash)]
 pub struct StyleSheet {
     /// Foreground colour.
     pub fg: Option<Color>,
@@ -199,6 +199,16 @@ fn optional_bytes(color: Option<Color>) -> [u8; 4]
     color.map_or([0; 4], Color::to_bytes)
 }
 
+// Not derived, and so for `Styled`: a derive would promise a default of each field, and not that the style is plain.
+impl Default for StyleSheet {
+    ghost is_default = { λ s. s ≡ plain };
+
+    /// A style sheet with no colours and no attributes.
+    fn default() -> StyleSheet {
+        StyleSheet::empty()
+    }
+}
+
 impl EqMeans for StyleSheet {
     ghost means = { λ s t same. Decides same (s ≡ t) };
 
@@ -206,7 +216,7 @@ impl EqMeans for StyleSheet {
 }
 
 /// A content with the style that it is to be shown in.
-#[derive(Copy, Clone, Debug, Default, PartialEq, Eq, Drop)]
+#[derive(Copy, Clone, Debug, PartialEq, Eq, Drop)]
 pub struct Styled<T>
 where
     T: Display,
@@ -283,6 +293,17 @@ where
 
     fn from(content: T) -> Styled<T> {
         Styled::new(content)
+    }
+}
+
+impl<T> Default for Styled<T>
+where
+    T: Default + Display,
+{
+    ghost is_default = { λ s. T.Default.is_default s.content × (s.style ≡ plain) };
+
+    fn default() -> Styled<T> {
+        Styled::new(T::default())
     }
 }
 

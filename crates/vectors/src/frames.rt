@@ -8,7 +8,7 @@ use width::{Fnv, Table};
 
 type Frame = FrameState<Table, Fnv>;
 
-// The width and, behind a colon, the bytes in hex.
+// Whether row `i` is this word: the width and, behind a colon, the bytes in hex.
 fn row_agrees(heap: Global, word: &str, frame: &Frame, i: usize) -> Result<bool, AllocError> {
     let mut parts = word.split(':');
     let (Some(width), Some(bytes)) = (parts.next(), parts.next()) else {

@@ -13,9 +13,7 @@ impl<C: WidthRule, R: RowHash> FrameState<C, R> {
     pub fn mark_cursor_position(&mut self, offset: isize) -> Result<Position, FrameError>
         ensures { MatchResult result (Marks (rule_of self.old C.WidthRule R.RowHash) offset self.old self.new) (λ e. BadMark offset e × (self.new ≡ self.old)) }
     {
-        let Ok(offset) = u16::try_from(offset) else {
-            return Err(FrameError::BadOffset);
-        };
+        let offset = u16::try_from(offset).map_err(|_| FrameError::BadOffset)?;
         let (rows, col) = folded_column(self.draft.width, offset, self.terminal_size.width());
         let finished = self.draft.store.rows_len() as u16;
         let position = Position {

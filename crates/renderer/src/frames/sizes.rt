@@ -34,10 +34,7 @@ impl<C: WidthRule, R: RowHash> Frames<C, R> {
 pub(crate) fn taken_size<T: Terminal>(terminal: &T) -> TerminalSize
     ensures { (result.width ≡ (T.Terminal.page terminal.now).width) × (result.height ≡ (T.Terminal.page terminal.now).height) }
 {
-    match terminal.get_size() {
-        Ok(Some(size)) => size,
-        _ => TerminalSize::default(),
-    }
+    terminal.get_size().ok().flatten().unwrap_or_default()
 }
 
 // A noted column past the columns is folded.

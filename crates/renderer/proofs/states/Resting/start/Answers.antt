@@ -5,11 +5,11 @@ use Rattle.renderer.specs.declared.frames.Frames.{Frames}
 use Rattle.renderer.proofs.Refusing.{refuses-start}
 use Rattle.renderer.proofs.states.Resting.start.Goals as goal
 
-pub returns-in-Ok : goal.returns-in-Ok
-returns-in-Ok g c =
+pub returns : goal.returns
+returns g c =
     let s = c.args.self in
     let z = c.taken_size-size in
-    let h = c.in-Ok.ensures in
+    let h = c.in_default.ensures in
     by-start (rules g.T.Width.WidthRule.cells g.R.RowHash.seed g.R.RowHash.step) (g.T.Terminal.page s.terminal) (sheet_from s.frames.last) s.cursor_position
     z.result.width z.result.height z.ensures.0 z.ensures.1 h.wide h.fit h.last c.correct.ensures h.current h.mark
 
