@@ -29,7 +29,8 @@ impl Terminal for AnsiOut {
         Ok(())
     }
 
-    // A call that moves the cursor sets it itself: a method that all of them called would have to be told where it goes.
+    // A call that moves the cursor sets it itself: a method that all of them called would have to be told
+    // where it goes, so it would be no plainer.
     fn carriage_return(&mut self) -> Result<(), Fault> {
         self.check_left(COST)?;
         push(&mut self.bytes, b'\r');

@@ -24,7 +24,8 @@ pub(crate) fn push_all(out: &mut Vec<u8>, bytes: &[u8])
     }
 }
 
-// The last digit is found first, so the digits before it are pushed by a call.
+// Not by write!, which does not say that the capacity stays. The last digit is found first, so the digits before it are pushed
+// by a call.
 fn push_decimal(out: &mut Vec<u8>, n: u16)
     requires { Room out.old (decimal n) }
     ensures { Adds out.old out.new (decimal n) }
@@ -85,7 +86,7 @@ fn push_color(out: &mut Vec<u8>, base: u8, color: Option<Color>)
     }
 }
 
-// The sequence of a number, or none.
+// The sequence of a number, or none. With an `if` at each call in its place each would have to prove both ways.
 fn push_flag(out: &mut Vec<u8>, n: u8, on: bool)
     requires { Room out.old (flagged n on) }
     ensures { Adds out.old out.new (flagged n on) }

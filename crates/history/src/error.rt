@@ -18,6 +18,7 @@ pub enum RenderError {
 }
 
 impl RenderError {
+    /// Its number. No cast gives it: variants have fields.
     pub fn number(&self) -> u8
         ensures { result ≡ number_of self.now }
     {

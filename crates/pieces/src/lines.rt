@@ -61,6 +61,7 @@ pub(crate) fn push_answer<'a, T: Into<Word<'a>>, I: Iterator<Item = T> + Drop>(
     match pieces {
         Ok(pieces) => push_words(out, pieces),
         Err(refusal) => {
+            // not as the refusal prints itself: a stored answer has no ` at `
             write!(out, "refused {} {}", refusal.number(), refusal.place())?;
             Ok(())
         }

@@ -29,7 +29,8 @@ fn put_char(cells: &mut [Cell], at: usize, n: usize, cell: Cell)
     }
 }
 
-// Puts the characters of a run, with the pen that its style and its colour sequences give.
+// Puts the characters of a run, with the pen that its style and its colour sequences give. Where the next one goes is counted,
+// since it takes as many cells as the width rule says.
 pub(crate) fn put_run<C: WidthRule>(
     cells: &mut [Cell],
     mut at: usize,

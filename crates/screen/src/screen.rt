@@ -184,6 +184,7 @@ impl<'a, C: WidthRule> Terminal for Screen<'a, C> {
         Ok(())
     }
 
+    // Hiding and showing differ in one assignment, and in what they promise.
     fn cursor_hide(&mut self) -> Result<(), Fault>
         ensures { Exactly C.WidthRule.cells hide (page_of self.old) result (page_of self.new) }
     {

@@ -16,8 +16,8 @@ use width::WidthRule;
 fn first_number(bytes: &[u8]) -> Option<u16>
     ensures { MatchOption result (parameters bytes.now ≡ false) (λ n. (parameters bytes.now ≡ true) × (n ≡ min (first_number bytes.now) 65535)) }
 {
-    let mut n: u16 = 0;
     // a chain of take_while and fold did not prove
+    let mut n: u16 = 0;
     let mut first = true;
     for b in bytes {
         match *b {
