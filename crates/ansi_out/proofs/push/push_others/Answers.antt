@@ -1,6 +1,4 @@
 use Rattle.std.proofs.Common.{sym, subst, arith}
-use Rattle.std.proofs.lemmas.List.{take_all}
-use Rattle.stream.specs.Bytes.{others}
 use Rattle.ansi_out.specs.Adds.{Adds}
 use Rattle.ansi_out.proofs.Adding.{adds-join, others-more, others-within}
 use Rattle.ansi_out.proofs.push.push_others.Goals as goal
@@ -15,6 +13,3 @@ pub loop-n-preserved : goal.loop-n-preserved
 loop-n-preserved c =
     let one_more = sym (others-more c.args.ns.now c.loop-n.n-index (omega arith)) in
     subst (λ l. Adds c.args.out.now c.push_decimal.new.out l) one_more (adds-join c.loop-n.invariant (adds-join c.push.ensures c.push_decimal.ensures))
-
-pub returns : goal.returns
-returns c = subst (λ l. Adds c.args.out.now c.loop-n.out (others l)) (take_all c.loop-n.n-index c.args.ns.now (omega arith)) c.loop-n.invariant
