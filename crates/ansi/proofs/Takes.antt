@@ -3,7 +3,6 @@ use Rattle.std.proofs.Common.{◌≡◌, ℕ, ◌+◌, ◌-◌, false, eqb, List
 use Rattle.std.specs.Char.{len_utf8}
 use Rattle.std.specs.Str.{IsCharBoundary}
 use Rattle.std.proofs.lemmas.Grind.{common_steps}
-use Rattle.std.proofs.lemmas.List.{drop-drop}
 use Rattle.std.proofs.lemmas.Str.{IsCharBoundary-from_drop}
 use Rattle.ansi.specs.declared.pieces.AnsiAwareChars.{AnsiAwareChars}
 use Rattle.ansi.specs.declared.pieces.Piece.{Piece}
@@ -21,18 +20,18 @@ before n text = grind (arith, common_steps)
 after : (n : ℕ) (text : List ℕ) → drop (length text - length (drop n text)) text ≡ drop n text
 after n text = grind (arith, common_steps)
 
--- behind ESC and the rest of the sequence
-beyond : (text rest : List ℕ) → Begins text 27 rest → behind InEscape rest ≡ drop (1 + ends InEscape (from text 1)) text
-beyond text rest b = ap (behind InEscape) b.after ∙ drop-drop (ends InEscape (from text 1)) 1 text
+-- behind ESC and the rest of the sequence: in the state behind ESC, ESC is passed over
+beyond : (text rest : List ℕ) → Begins text 27 rest → behind InEscape text ≡ drop (1 + ends InEscape (from text 1)) text
+beyond text rest b = ap (λ cs. drop (ends InEscape cs) text) b.chars
 
 -- where the text is cut behind a sequence
-pub cut : (text rest : List ℕ) → IsUtf8 (behind InEscape rest) → Begins text 27 rest → IsCharBoundary text (length text - length (behind InEscape rest))
+pub cut : (text rest : List ℕ) → IsUtf8 (behind InEscape text) → Begins text 27 rest → IsCharBoundary text (length text - length (behind InEscape text))
 cut text rest u b =
     let n = 1 + ends InEscape (from text 1) in
     subst (λ l. IsCharBoundary text (length text - length l)) (sym (beyond text rest b))
     (IsCharBoundary-from_drop text (length text - length (drop n text)) (omega arith) (subst IsUtf8 (beyond text rest b ∙ sym (after n text)) u))
 
-pub letters_behind : (text rest : List ℕ) → IsUtf8 text → Begins text 27 rest → letters (pieces (behind InEscape rest)) ≡ letters (pieces text)
+pub letters_behind : (text rest : List ℕ) → IsUtf8 text → Begins text 27 rest → letters (pieces (behind InEscape text)) ≡ letters (pieces text)
 letters_behind text rest u b = ap (λ l. letters (pieces l)) (beyond text rest b) ∙ sym (ap letters (first-escape text u (from text 1) b.chars))
 
 pub letters_next : (text : List ℕ) (c : ℕ) (rest : List ℕ) → IsUtf8 text → Begins text c rest → eqb c 27 ≡ false → letters (pieces text) ≡ c ∷ letters (pieces rest)
@@ -43,7 +42,7 @@ module _ (s t : AnsiAwareChars) where
   done same e = record { pieces = ap (scan ground) e.chars; long = e.long; same = same }
 
   module _ (u : IsUtf8 (unread s)) (len : t.len ≡ s.len) where
-    pub takes_escape : (p : Piece) (rest : List ℕ) → Begins (unread s) 27 rest → StandsAt (placed s) p → unread t ≡ behind InEscape rest → part p ≡ sequence (take (length (unread s) - length (unread t)) (unread s)) → Takes s p t
+    pub takes_escape : (p : Piece) (rest : List ℕ) → Begins (unread s) 27 rest → StandsAt (placed s) p → unread t ≡ behind InEscape (unread s) → part p ≡ sequence (take (length (unread s) - length (unread t)) (unread s)) → Takes s p t
     takes_escape p rest begins stands left is =
         let n = 1 + ends InEscape (from (unread s) 1) in
         let past = left ∙ beyond (unread s) rest begins in

@@ -80,7 +80,9 @@ impl AnsiMatcher {
     }
 }
 
-// What stands behind an escape sequence, given what stands behind its ESC.
+// What stands behind the escape sequence that a text begins with. The state behind ESC is that before it, so it is read from
+// its ESC on. It stays a call, so that what hands out a character is short and can stand in its caller.
+#[inline(never)]
 pub(crate) fn behind_sequence(text: &str) -> &str
     ensures { result.now ≡ behind InEscape text.now }
 {

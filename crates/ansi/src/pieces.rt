@@ -62,16 +62,17 @@ impl<'a> Iterator for AnsiAwareChars<'a> {
 
     ghost remaining = { λ s. at_most (length (unread s)) };
 
+    #[inline]
     #[tactic(auto, using(crate::proofs::Takes::cut, crate::proofs::Takes::takes_escape, crate::proofs::Takes::takes_letter))]
     fn next(&mut self) -> Option<Piece<'a>> {
         let input = self.input;
-        let place = self.place();
         let (c, rest) = first(input)?;
-        self.input = rest;
         if c != '\x1B' {
+            self.input = rest;
             return Some(Piece::Char(c));
         }
-        self.input = behind_sequence(rest);
+        let place = self.place();
+        self.input = behind_sequence(input);
         let text = &input[..input.len() - self.input.len()];
         Some(Piece::Escape { text, place })
     }
@@ -119,7 +120,7 @@ impl<'a> Iterator for AnsiStrippedChars<'a> {
                 self.input = rest;
                 return Some(c);
             }
-            self.input = behind_sequence(rest);
+            self.input = behind_sequence(self.input);
         }
         None
     }

@@ -12,6 +12,9 @@ use std::{env, fs};
 // One more than the last code point, so that an escape sequence counts as no character does.
 const ESCAPE: u64 = 0x11_0000;
 
+// The sums are calls of their own: where a loop of few instructions stands in a program decides its time by up to twice, and
+// so it does not hang on what calls it.
+#[inline(never)]
 fn sum_of(pieces: AnsiAwareChars) -> u64 {
     pieces.fold(0, |sum, piece| match piece {
         Piece::Escape { text, .. } => mixed(sum, ESCAPE.wrapping_add(text.len() as u64)),
@@ -19,16 +22,19 @@ fn sum_of(pieces: AnsiAwareChars) -> u64 {
     })
 }
 
+#[inline(never)]
 fn pieces_sum(text: &str) -> u64 {
     sum_of(text.ansi_aware_chars())
 }
 
+#[inline(never)]
 fn stripped_sum(text: &str) -> u64 {
     text.ansi_stripped_chars()
         .fold(0, |sum, c| mixed(sum, u64::from(u32::from(c))))
 }
 
 // A match and no map_or, with which plain text takes 11 in 100 longer.
+#[inline(never)]
 fn checked_sum(text: &str) -> u64 {
     match AnsiAwareChars::new(text.as_bytes()) {
         Ok(pieces) => sum_of(pieces),

@@ -148,13 +148,13 @@ impl Session {
 // The answers to a script, and a line that counts what was done.
 pub(crate) fn answers(heap: Global, script: &str) -> anyhow::Result<String> {
     let mut session = Session::open(heap)?;
-    for (number, line) in script.lines().enumerate() {
+    // counted here, since to go over the script once more takes a twentieth of the time
+    let mut lines: usize = 0;
+    for line in script.lines() {
+        lines = lines.saturating_add(1);
         match Call::read(heap, line) {
             Ok(call) => session.play(call)?,
-            Err(Fault::NotUnderstood) => {
-                let number = number.saturating_add(1);
-                writeln!(session.out, "line {number} not understood")?;
-            }
+            Err(Fault::NotUnderstood) => writeln!(session.out, "line {lines} not understood")?,
             Err(Fault::Memory(error)) => return Err(error.into()),
         }
     }
@@ -165,7 +165,6 @@ pub(crate) fn answers(heap: Global, script: &str) -> anyhow::Result<String> {
         calls,
         refused,
     } = session;
-    let lines = script.lines().count();
     writeln!(
         out,
         "played {calls} calls of {lines} lines, {refused} refused"

@@ -1,5 +1,7 @@
 // The size of a terminal.
-ghost use Rattle.std.specs.Prelude.{◌≡◌, ◌<◌, ◌⊎◌, MatchOption};
+ghost use Rattle.std.specs.Prelude.{◌≡◌, ◌<◌, ◌⊎◌, Decides, MatchOption};
+
+use style::EqMeans;
 
 /// Columns and rows, neither of which is 0.
 #[derive(Clone, Copy, PartialEq, Eq)]
@@ -36,6 +38,14 @@ impl TerminalSize {
     {
         self.height
     }
+}
+
+impl EqMeans for TerminalSize {
+    ghost use Rattle.size.specs.Equality.{sizes_decide};
+
+    ghost means = { λ a b same. Decides same ((a.width ≡ b.width) × (a.height ≡ b.height)) };
+
+    ghost holds = { sizes_decide };
 }
 
 // Not derived: of its fields' defaults no size is made.

@@ -171,6 +171,7 @@ impl StyleSheet {
     }
 
     /// Nine bytes that no other style has.
+    #[inline]
     #[tactic(auto, using(crate::proofs::Together::bytes_tell, crate::proofs::Together::put_together))]
     pub fn to_bytes(&self) -> [u8; 9]
         ensures value { result ≡ style_bytes self.now }
