@@ -148,7 +148,7 @@ impl Session {
 // The answers to a script, and a line that counts what was done.
 pub(crate) fn answers(heap: Global, script: &str) -> anyhow::Result<String> {
     let mut session = Session::open(heap)?;
-    // counted here, since to go over the script once more takes a twentieth of the time
+    // counted here, since to go over the script once more takes a twentieth more instructions
     let mut lines: usize = 0;
     for line in script.lines() {
         lines = lines.saturating_add(1);
